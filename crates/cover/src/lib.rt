@@ -1,0 +1,1 @@
+// Access words and separating words of a minimal machine.

@@ -1,0 +1,4 @@
+pub mod First
+pub mod Order
+pub mod Pigeonhole
+pub mod Runs

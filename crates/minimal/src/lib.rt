@@ -1,0 +1,1 @@
+// Which states are equivalent, and the minimal machine.

@@ -1,0 +1,1 @@
+// The tests for a minimal machine and a number of extra states.
