@@ -2,10 +2,10 @@
 use mathlib.Core.Path.{_≡_, refl, sym, ap, _∙_}
 use mathlib.Core.List.{List, [], _∷_, _++_}
 use mathlib.Core.Logic.{inl, inr}
-use Prim.Native.Nat.{ℕ, suc, _+_, _<_, _≤_}
+use Prim.Native.Nat.{ℕ, zero, suc, _+_, _<_, _≤_}
 use native.Mathlib.Omega.{arith}
 use lib.ListN.{length, getD, take, drop, length-append}
-use Rattle.std.proofs.shelf.Lists.{take-at, drop-at, getD-past}
+use Rattle.std.proofs.shelf.Lists.{take-at, drop-at, take-more, getD-past}
 use Rattle.std.proofs.shelf.Tests.{cases-lt}
 use Rattle.machine.specs.Machine.{Machine, Word, Keys, Proper, Equivalent, Same-outputs, move, no-move, outputs, after}
 
@@ -55,3 +55,14 @@ module _ {k : ℕ} {m : Machine} (proper : Proper k m) where
   unfolding after
   after-below s [] h = h
   after-below s (x ∷ w) h = after-below (move m s x .to) w (move-below s x h)
+
+-- one key more of a word
+pub after-more : (m : Machine) (s : ℕ) (w : Word) (i : ℕ) → i < length w → after m s (take (i + 1) w) ≡ move m (after m s (take i w)) (getD w i 0) .to
+unfolding after
+after-more m s w i h = ap (after m s) (take-more w i 0 h) ∙ after-append m s (take i w) (getD w i 0 ∷ [])
+
+pub outputs-at : (m : Machine) (s : ℕ) (w : Word) (i : ℕ) → i < length w → getD (outputs m s w) i 0 ≡ move m (after m s (take i w)) (getD w i 0) .output
+unfolding outputs after
+outputs-at m s [] i h = absurd (omega arith)
+outputs-at m s (x ∷ w) zero h = refl
+outputs-at m s (x ∷ w) (suc i) h = outputs-at m (move m s x .to) w i (omega arith)

@@ -1,5 +1,7 @@
 pub mod First
 pub mod Machine
+pub mod Reading
 pub mod Refusals
 pub mod Row
+pub mod Run
 pub mod Words

@@ -1,8 +1,8 @@
 -- Machines in rows of numbers: how many states, how many keys, and for each state and key where it leads and what it shows.
 -- Assumes nothing: these are definitions.
 use mathlib.Core.List.{List, [], _∷_, map}
-use Prim.Native.Nat.{ℕ, _+_, _*_}
-use lib.ListN.{length, getD}
+use Prim.Native.Nat.{ℕ, suc, _+_, _*_}
+use lib.ListN.{length, getD, take, drop}
 use Rattle.std.specs.Iters.{counting}
 use Rattle.std.specs.Joined.{joined}
 use Rattle.machine.specs.Machine.{Machine, Move}
@@ -37,3 +37,7 @@ move-row a = a .to ∷ a .output ∷ []
 -- the row of a machine with k keys
 unfoldable pub row-of : ℕ → Machine → List ℕ
 row-of k m = length m ∷ k ∷ joined (joined move-row) m
+
+-- a word in a row: its length stands in front of its keys; of a word that is cut short, the keys that are there
+abbrev pub word-in : List ℕ → ℕ → List ℕ
+word-in row at = take (getD row at 0) (drop (suc at) row)

@@ -1,4 +1,13 @@
 // Machines in lent rows of numbers: refusals, reading, running.
+mod reading;
 mod refusals;
+mod running;
+mod view;
 
+pub use reading::Shape;
+pub use reading::read;
+pub use reading::read_shape;
 pub use refusals::Refusal;
+pub use running::Difference;
+pub use running::word_at;
+pub use view::Machine;
