@@ -8,6 +8,8 @@ pub use reading::Shape;
 pub use reading::read;
 pub use reading::read_shape;
 pub use refusals::Refusal;
+pub use refusals::RefusalDebug;
+pub use refusals::RefusalPartialEq;
 pub use running::Difference;
 pub use running::word_at;
 pub use view::Machine;

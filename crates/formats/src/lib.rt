@@ -1,0 +1,11 @@
+// What the programs share: numbers out of bytes, the machine and the extra states out of an input, a word as text.
+mod input;
+mod text;
+
+pub use input::Input;
+pub use input::numbers;
+pub use input::read_input;
+pub use text::word_text;
+
+#[cfg(test)]
+mod tests;
