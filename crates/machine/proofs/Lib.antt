@@ -6,3 +6,4 @@ pub mod Readings
 pub mod Rows
 pub mod Runs
 pub mod Views
+pub mod Written

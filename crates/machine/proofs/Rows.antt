@@ -30,6 +30,9 @@ module _ (row : List ℕ) where
   unfolding machine-in
   moves-in s h = getD-map-counting (λ t. map (λ x. move-at row (t * keys-in row + x)) (counting 0 (keys-in row))) 0 (states-in row) s s [] h (omega arith)
 
+  pub length-moves-in : (s : ℕ) → s < states-in row → length (getD (machine-in row) s []) ≡ keys-in row
+  length-moves-in s h = ap length (moves-in s h) ∙ length-map-counting _ 0 (keys-in row)
+
   pub move-in : (s x : ℕ) → s < states-in row → x < keys-in row → move (machine-in row) s x ≡ move-at row (s * keys-in row + x)
   unfolding move
   move-in s x h l =
@@ -123,7 +126,7 @@ proper-in row e =
     let n = length-machine-in row in
     record {
       some = let l = good .shape .some-states in omega arith;
-      full = λ s h. ap length (moves-in row s (omega arith)) ∙ length-map-counting _ 0 (keys-in row);
+      full = λ s h. length-moves-in row s (omega arith);
       closed = λ s x h l.
           let inside : s < states-in row = omega arith in
           let to = ap (λ (a : Move). a .to) (move-in row s x inside l) in
