@@ -6,4 +6,5 @@ pub mod Readings
 pub mod Rows
 pub mod Runs
 pub mod Views
+pub mod Writing
 pub mod Written

@@ -1,14 +1,13 @@
--- Rows that are written: the machine that a written row holds, and writing a row number by number. Assumes nothing.
+-- The machine that a written row holds. Assumes nothing.
 use mathlib.Core.Path.{_≡_, refl, sym, ap, _∙_}
-use mathlib.Core.List.{List, [], _∷_, _++_, append-assoc}
+use mathlib.Core.List.{List, [], _∷_, _++_}
 use Prim.Native.Nat.{ℕ, zero, suc, _+_, _*_, _<_, _≤_}
 use native.Mathlib.Nat.{suc-mul, zero-mul, zero-add, add-assoc, mul-assoc, mul-comm, add-mul}
-use native.Mathlib.Numerals.{add-one}
 use native.Mathlib.Omega.{arith}
 use lib.Arith.{digits-lt}
-use lib.ListN.{length, getD, set, take, drop, length-append, length-take, length-drop}
+use lib.ListN.{length, getD, length-append}
 use Rattle.std.specs.Joined.{joined}
-use Rattle.std.proofs.shelf.Lists.{getD-append-left, getD-append-add, length-take-le, take-all, take-more, drop-more, set-at, ext-getD}
+use Rattle.std.proofs.shelf.Lists.{getD-append-left, getD-append-add, ext-getD}
 use Rattle.machine.specs.Machine.{Machine, Move, no-move, move, Proper}
 use Rattle.machine.specs.Row.{states-in, keys-in, target-at, output-at, move-at, move-row, room, machine-in, row-of}
 use Rattle.machine.proofs.Rows.{length-machine-in, length-moves-in, move-in}
@@ -107,20 +106,3 @@ module _ (k : ℕ) (m : Machine) (full : (s : ℕ) → s < length m → length (
           let moves = length-moves-in row s (omega arith) in
           let width = full s (omega arith) in
           ext-getD no-move (getD (machine-in row) s []) (getD m s []) (omega arith) (λ x l. written-move s x (omega arith) (omega arith)))
-
--- what a row holds while another is written over it: the front of the new one, and behind it what was there
-abbrev pub overwritten : List ℕ → List ℕ → ℕ → List ℕ
-overwritten new old i = take i new ++ drop i old
-
-module _ (new old : List ℕ) (fits : length new ≤ length old) where
-  -- one number more
-  pub overwritten-more : (i y : ℕ) → i < length new → y ≡ getD new i 0 → set (overwritten new old i) i y ≡ overwritten new old (i + 1)
-  overwritten-more i y h e =
-      ap (λ b. set (take i new ++ b) i y) (drop-more old i 0 (omega arith))
-      ∙ set-at (take i new) (getD old i 0) (drop (i + 1) old) y i (length-take-le i new (omega arith))
-      ∙ ap (λ z. take i new ++ z ∷ drop (i + 1) old) e
-      ∙ sym (append-assoc (take i new) (getD new i 0 ∷ []) (drop (i + 1) old))
-      ∙ ap (λ a. a ++ drop (i + 1) old) (sym (take-more new i 0 h))
-
-  pub overwritten-all : overwritten new old (length new) ≡ new ++ drop (length new) old
-  overwritten-all = ap (λ a. a ++ drop (length new) old) (take-all (length new) new (omega arith))

@@ -1,5 +1,6 @@
 pub mod First
 pub mod Machine
+pub mod Making
 pub mod Reading
 pub mod Refusals
 pub mod Row

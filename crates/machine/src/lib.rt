@@ -1,9 +1,12 @@
 // Machines in lent rows of numbers: refusals, reading, running.
+mod making;
 mod reading;
 mod refusals;
 mod running;
 mod view;
 
+pub use making::Moves;
+pub use making::write_machine;
 pub use reading::Shape;
 pub use reading::read;
 pub use reading::read_shape;
