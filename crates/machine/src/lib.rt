@@ -5,7 +5,7 @@ mod refusals;
 mod running;
 mod view;
 
-pub use making::Moves;
+pub use making::Derive;
 pub use making::write_machine;
 pub use reading::Shape;
 pub use reading::read;
