@@ -15,6 +15,10 @@ unfoldable pub first-reaching : Machine → ℕ → List Word → Word
 first-reaching m s [] = []
 first-reaching m s (w ∷ ws) = cond (eqb (after m 0 w) s) w (first-reaching m s ws)
 
+-- word w tells states t and s apart: begun in t the machine does not show what it shows begun in s
+abbrev pub Tells : Machine → ℕ → ℕ → Word → Type 0
+Tells m t s w = outputs m t w ≡ outputs m s w → ⊥
+
 -- of some words the first for which states t and s show different rows, or the empty word
 unfoldable pub first-telling : Machine → ℕ → ℕ → List Word → Word
 first-telling m t s [] = []

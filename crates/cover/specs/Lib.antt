@@ -1,1 +1,5 @@
 pub mod Cover
+pub mod Covered
+pub mod Levels
+pub mod Promises
+pub mod Words

@@ -1,5 +1,8 @@
+pub mod Cut
 pub mod Differences
+pub mod Enumeration
 pub mod First
+pub mod Once
 pub mod Order
 pub mod Pigeonhole
 pub mod Readings

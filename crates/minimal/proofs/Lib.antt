@@ -1,0 +1,14 @@
+pub mod Alike
+pub mod Answered
+pub mod Beside
+pub mod Counts
+pub mod FirstWords
+pub mod Found
+pub mod Growing
+pub mod Moore
+pub mod Needed
+pub mod Quotient
+pub mod Refined
+pub mod Smallest
+pub mod Unique
+pub mod Views

@@ -1,3 +1,6 @@
 pub mod Levels
 pub mod Minimal
+pub mod Minimized
 pub mod Promises
+pub mod Quotient
+pub mod Search
