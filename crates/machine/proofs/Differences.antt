@@ -2,14 +2,18 @@
 use mathlib.Core.Path.{_≡_, refl, sym, ap, _∙_}
 use mathlib.Core.Bool.{true, false, not, _||_}
 use mathlib.Core.List.{List}
+use mathlib.Core.Logic.{inl, inr}
 use Prim.Native.Nat.{ℕ, _<_, _≤_}
+use native.Mathlib.Omega.{arith}
 use lib.Dec.{eqb, leb}
 use lib.ListN.{length, getD}
-use Rattle.std.proofs.shelf.Tests.{le-leb, lt-leb, eq-eqb, ne-eqb, or-left, or-right, or-from, not-from-true, not-from-false}
+use Rattle.std.proofs.shelf.Lists.{ext-getD}
+use Rattle.std.proofs.shelf.Tests.{le-leb, lt-leb, eq-eqb, ne-eqb, eqb-true, or-left, or-right, or-from, or-parts, not-false, not-from-true, not-from-false}
 use Rattle.std.specs.declared.option.Option.the-variants.{Some, None}
 use Rattle.machine.specs.Machine.{Machine, Word, outputs}
 use Rattle.machine.specs.Run.{differs-at, at-key, difference}
-use Rattle.machine.proofs.First.{first-none, first-some}
+use Rattle.machine.proofs.First.{first-none, first-some, first-cases}
+use Rattle.machine.proofs.Runs.{length-outputs}
 
 module _ (expected seen : List ℕ) (i : ℕ) where
   pub unseen : length seen ≤ i → differs-at expected seen i ≡ true
@@ -31,3 +35,19 @@ module _ (m : Machine) (w : Word) (seen : List ℕ) where
       difference m w seen ≡ Some (record { key = i; expected = getD (outputs m 0 w) i 0 })
   unfolding difference
   difference-some i h here none = ap (at-key (outputs m 0 w)) (first-some _ _ i h here none)
+
+  -- nothing differs exactly if what was seen is what the machine shows
+  pub difference-same : seen ≡ outputs m 0 w → difference m w seen ≡ None
+  difference-same e =
+      let n = length-outputs m 0 w in
+      let l = ap length e in
+      difference-none (λ j h. seen-same (outputs m 0 w) seen j (omega arith) (ap (λ z. getD z j 0) e))
+
+  pub same-difference : length seen ≡ length w → difference m w seen ≡ None → seen ≡ outputs m 0 w
+  unfolding difference
+  same-difference l e =
+      let n = length-outputs m 0 w in
+      elim (first-cases (differs-at (outputs m 0 w) seen) (length w)) [
+        inl a ↦ ext-getD 0 seen (outputs m 0 w) (omega arith) (λ j h. eqb-true _ _ (not-false _ (or-parts _ _ (a .1 j (omega arith)) .1)))
+      | inr b ↦ absurd (let s = ap (at-key (outputs m 0 w)) (b .1) in let z : _≡_ {A = ℕ} 0 1 = cc in omega arith)
+      ]
