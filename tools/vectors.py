@@ -59,5 +59,7 @@ def reading():
 
 
 section("read", reading())
+section("minimize", cases("minimize"))
+section("words", cases("words"))
 open("crates/vectors/stdin", "w").write("\n".join(stdin) + "\n")
 open("crates/vectors/stdout", "w").write("\n".join(stdout) + "\n")
