@@ -40,6 +40,67 @@ EDGES = [
     ([16, 8] + [15, 1] * 127 + [15], "1 257"),
 ]
 
+PUMP = [3, 2, 1, 0, 0, 0, 2, 0, 0, 1, 2, 0, 0, 2]
+ONE = [1, 1, 0, 2**32 - 1]
+FULL = [16, 8] + [(s * 7 + x * 3 + 1) % 16 if i == 0 else s * x for s in range(16) for x in range(8) for i in (0, 1)]
+# machines, bounds and rooms: the largest that fits, one more, the exact room and one less, the largest numbers
+SURVIVORS = [
+    (PUMP, 0, 100), (PUMP, 3, 100), (PUMP, 3, 50), (PUMP, 3, 49), (PUMP, 1364, 20000), (PUMP, 1365, 20000), (PUMP, 1365, 0),
+    (PUMP, TOP, 10), (PUMP, 2**32, 10), (PUMP, 1431655764, 10), (PUMP, 1431655765, 10), (PUMP, 5, 0),
+    (ONE, 0, 4), (ONE, 0, 3), (ONE, 1, 10), (ONE, 4095, 9000), (ONE, 4096, 9000), (ONE, TOP, 9000), (ONE, 2**32 - 1, 0), (ONE, 2**32, 0),
+    (FULL, 0, 300), (FULL, 255, 66000), (FULL, 255, 65538), (FULL, 255, 65537), (FULL, 256, 66000),
+    ([], 1, 5), ([3, 2, 1], 1, 5), ([1, 1, 1, 0], 1, 5),
+]
+
+
+def refused_row(row):
+    if len(row) < 2:
+        return (1, len(row))
+    n, k = row[0], row[1]
+    if not 1 <= n <= 16:
+        return (1, n)
+    if not 1 <= k <= 8:
+        return (1, k)
+    if len(row) < 2 + 2 * n * k:
+        return (1, len(row))
+    for j in range(n * k):
+        if row[2 + 2 * j] >= n or row[3 + 2 * j] >= 2**32:
+            return (2, j)
+    return None
+
+
+def checksum(row):
+    c = 0
+    for number in row:
+        c = (c * 31 + number) % 2**32
+    return c
+
+
+def survivor(row, longest, room):
+    out = [7] * room
+    refusal = refused_row(row)
+    if refusal is None:
+        n, k = row[0], row[1]
+        states = (longest + 1) * n
+        needed = 2 + 2 * states * k
+        if states > 4096:
+            refusal = (7, min(states, 2**32))
+        elif needed > room:
+            refusal = (8, needed)
+    if refusal is not None:
+        return f"{refusal[0]} {refusal[1]}, {checksum(out)}"
+    made = [states, k]
+    for pressed in range(longest + 1):
+        for s in range(n):
+            for x in range(k):
+                to, output = row[2 + 2 * (s * k + x)], row[3 + 2 * (s * k + x)]
+                if pressed == longest and x == 0:
+                    output = (output + 1) % 2**32
+                made += [min(pressed + 1, longest) * n + to, output]
+    out[: len(made)] = made
+    return f"{states} states, {checksum(out)}"
+
+
 stdin, stdout = [], []
 
 
@@ -61,5 +122,6 @@ def reading():
 section("read", reading())
 section("minimize", cases("minimize"))
 section("words", cases("words"))
+section("survivor", ((" / ".join([" ".join(map(str, row)), str(longest), str(room)]), survivor(row, longest, room)) for row, longest, room in SURVIVORS))
 open("crates/vectors/stdin", "w").write("\n".join(stdin) + "\n")
 open("crates/vectors/stdout", "w").write("\n".join(stdout) + "\n")

@@ -1,10 +1,12 @@
 // Runs stored cases through the libraries: a line `== NAME` begins the cases of one kind, each further line is a case.
 mod machines;
+mod survivors;
 mod text;
 
 use machines::minimize_case;
 use machines::read_case;
 use machines::words_case;
+use survivors::survivor_case;
 use std::error::AnyError;
 use std::io::Read;
 
@@ -13,6 +15,7 @@ enum Kind {
     Read,
     Minimize,
     Words,
+    Survivor,
 }
 
 fn kind_named(name: &str) -> Result<Kind, AnyError> {
@@ -20,6 +23,7 @@ fn kind_named(name: &str) -> Result<Kind, AnyError> {
         "read" => Ok(Kind::Read),
         "minimize" => Ok(Kind::Minimize),
         "words" => Ok(Kind::Words),
+        "survivor" => Ok(Kind::Survivor),
         _ => Err("no such kind of case".into()),
     }
 }
@@ -29,6 +33,7 @@ fn run_case(rt: &LibcRuntime, kind: Kind, text: &str) -> Result<(), AnyError> {
         Kind::Read => read_case(rt, text),
         Kind::Minimize => minimize_case(rt, text),
         Kind::Words => words_case(rt, text),
+        Kind::Survivor => survivor_case(rt, text),
     }
 }
 

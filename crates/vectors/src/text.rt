@@ -32,3 +32,20 @@ pub fn print_refusal(rt: &LibcRuntime, refusal: Refusal) -> io::Result<()> {
     let place = refusal.place();
     println!(rt, "{number} {place}")
 }
+
+// The number that a part of a line holds.
+pub fn number(part: Option<&str>) -> Result<u64, AnyError> {
+    let Some(text) = part else {
+        return Err("a part is missing".into());
+    };
+    Ok(text.trim().parse::<u64>()?)
+}
+
+// Each number behind 31 times the sum so far, below 2^32.
+pub fn checksum(row: &[u64]) -> u64 {
+    let mut sum = 0u64;
+    for number in row {
+        sum = sum.wrapping_mul(31).wrapping_add(*number) & 0xffff_ffff;
+    }
+    sum
+}
