@@ -1,1 +1,22 @@
 // The tests for a minimal machine and a number of extra states.
+mod apart;
+mod enumeration;
+mod fronts;
+mod keyed;
+mod marks;
+mod promises;
+mod rows;
+mod sink;
+mod sinks;
+mod values;
+
+pub use enumeration::each_test;
+pub use promises::each_test_once;
+pub use promises::equivalent_passes;
+pub use promises::few_tests;
+pub use promises::more_extra_more_tests;
+pub use promises::passing_is_equivalent;
+pub use promises::tests_read_back;
+pub use rows::test_at;
+pub use rows::write_suite;
+pub use sink::Sink;
