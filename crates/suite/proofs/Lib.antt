@@ -13,6 +13,7 @@ pub mod Places
 pub mod Repeats
 pub mod Splices
 pub mod Taken-apart
+pub mod Tested
 pub mod Tests-row
 pub mod With-key
 pub mod Writes

@@ -1,3 +1,4 @@
+pub mod Answer
 pub mod Enumeration
 pub mod Fronts
 pub mod Kept

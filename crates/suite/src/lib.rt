@@ -9,6 +9,7 @@ mod rows;
 mod sink;
 mod sinks;
 mod values;
+mod writing;
 
 pub use enumeration::each_test;
 pub use promises::each_test_once;
@@ -20,3 +21,6 @@ pub use promises::tests_read_back;
 pub use rows::test_at;
 pub use rows::write_suite;
 pub use sink::Sink;
+pub use writing::each_test_for;
+pub use writing::prepare;
+pub use writing::write_tests;
