@@ -10,6 +10,7 @@ use lib.ListN.{length, getD}
 use Rattle.std.proofs.shelf.Lists.{ext-getD}
 use Rattle.std.proofs.shelf.Tests.{le-leb, lt-leb, eq-eqb, ne-eqb, eqb-true, or-left, or-right, or-from, or-parts, not-false, not-from-true, not-from-false}
 use Rattle.std.specs.declared.option.Option.the-variants.{Some, None}
+use Rattle.machine.specs.declared.running.Difference.{Difference}
 use Rattle.machine.specs.Machine.{Machine, Word, outputs}
 use Rattle.machine.specs.Run.{differs-at, at-key, difference}
 use Rattle.machine.proofs.First.{first-none, first-some, first-cases}
@@ -50,4 +51,13 @@ module _ (m : Machine) (w : Word) (seen : List ℕ) where
       elim (first-cases (differs-at (outputs m 0 w) seen) (length w)) [
         inl a ↦ ext-getD 0 seen (outputs m 0 w) (omega arith) (λ j h. eqb-true _ _ (not-false _ (or-parts _ _ (a .1 j (omega arith)) .1)))
       | inr b ↦ absurd (let s = ap (at-key (outputs m 0 w)) (b .1) in let z : _≡_ {A = ℕ} 0 1 = cc in omega arith)
+      ]
+
+  -- a difference is at a key of the word
+  pub difference-inside : (d : Difference) → difference m w seen ≡ Some d → d .key < length w
+  unfolding difference
+  difference-inside d e =
+      elim (first-cases (differs-at (outputs m 0 w) seen) (length w)) [
+        inl a ↦ absurd (let s = ap (at-key (outputs m 0 w)) (a .0) in let z : _≡_ {A = ℕ} 0 1 = cc in omega arith)
+      | inr b ↦ let s = ap (at-key (outputs m 0 w)) (b .1) in let k : d .key ≡ b .0 = cc in let i = b .2 .inside in omega arith
       ]

@@ -3,7 +3,7 @@ use mathlib.Core.Path.{_≡_, refl, sym, ap, _∙_, subst}
 use mathlib.Core.Bool.{Bool, true, false, cond}
 use mathlib.Core.List.{List, [], _∷_, _++_, map}
 use Prim.Native.Nat.{ℕ, zero, suc, _+_, _*_, _^_, _<_, _≤_}
-use native.Mathlib.Nat.{mul-add, mul-one, suc-mul, zero-mul, pow-succ', pow-zero}
+use native.Mathlib.Nat.{mul-add, mul-le-mul, mul-one, suc-mul, zero-mul, pow-le-pow-left, pow-succ', pow-zero}
 use native.Mathlib.Omega.{arith}
 use lib.ListN.{length, length-append, length-map}
 use Rattle.std.specs.Iters.{counting}
@@ -54,3 +54,21 @@ unfolding tests access-words
 few-tests k e m =
     subst (λ n. length (suite k e (access-words k m) (separating-words k m)) ≤ n * (1 + k) * words-up-to k e * length (separating-words k m))
     (length-map-counting (λ s. first-reaching m s (up-to k (length m))) 0 (length m)) (few-tests-of k e (access-words k m) (separating-words k m))
+
+-- at most 8 keys and 3 keys in between
+words-low : (k e : ℕ) → k ≤ 8 → e ≤ 3 → words-up-to k e ≤ 585
+unfolding words-up-to
+words-low k zero hk he = omega arith
+words-low k (suc zero) hk he = let a = pow-le-pow-left hk 1 in omega arith
+words-low k (suc (suc zero)) hk he = let a = pow-le-pow-left hk 1 in let b = pow-le-pow-left hk 2 in omega arith
+words-low k (suc (suc (suc zero))) hk he = let a = pow-le-pow-left hk 1 in let b = pow-le-pow-left hk 2 in let c = pow-le-pow-left hk 3 in omega arith
+words-low k (suc (suc (suc (suc e)))) hk he = absurd (omega arith)
+
+pub tests-low : (k e : ℕ) (qs ws : List Word) → k ≤ 8 → e ≤ 3 → length qs ≤ 16 → length ws ≤ 120 → length (suite k e qs ws) ≤ 10108800
+tests-low k e qs ws hk he hq hw =
+    let keys : 1 + k ≤ 9 = omega arith in
+    let a : length qs * (1 + k) ≤ 144 = mul-le-mul hq keys in
+    let b : length qs * (1 + k) * words-up-to k e ≤ 84240 = mul-le-mul a (words-low k e hk he) in
+    let c : length qs * (1 + k) * words-up-to k e * length ws ≤ 10108800 = mul-le-mul b hw in
+    let d = few-tests-of k e qs ws in
+    omega arith

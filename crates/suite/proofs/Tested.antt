@@ -10,6 +10,7 @@ use Rattle.std.specs.declared.result.Result.{Result}
 use Rattle.std.specs.declared.result.Result.the-variants.{Ok, Err}
 use Rattle.std.specs.shelf.Lists.{All}
 use Rattle.std.proofs.shelf.Elements.{all-weaker}
+use Rattle.std.proofs.shelf.Lists.{length-map, length-take}
 use Rattle.std.proofs.shelf.Tests.{cond-both}
 use Rattle.machine.specs.declared.refusals.Refusal.{Refusal}
 use Rattle.machine.specs.declared.view.Machine.{Machine as View}
@@ -23,7 +24,7 @@ use Rattle.machine.proofs.Views.{view-accepted, view-proper, view-states}
 use Rattle.minimal.proofs.Moore.{short-separation}
 use Rattle.cover.specs.Cover.{access-words, separating-words, telling-words}
 use Rattle.cover.specs.Covered.{access-of, separating-of}
-use Rattle.cover.specs.Words.{words-of}
+use Rattle.cover.specs.Words.{word-of, words-of}
 use Rattle.cover.specs.declared.cover.Cover.{Cover}
 use Rattle.cover.proofs.Access.{length-access, access-words-fewer, access-words-reach}
 use Rattle.cover.proofs.Separating.{separating-separates}
@@ -63,6 +64,14 @@ module _ (c : Cover) where
 
   pub separating-part : words-of (take (c .count - 0) (c .separating)) ≡ separating-of c
   separating-part = let z : c .count - 0 ≡ c .count = omega arith in ap (λ n. words-of (take n (c .separating))) z
+
+  -- there are at most 120 separating words
+  pub part-low : length (words-of (take (c .count - 0) (c .separating))) ≤ 120
+  part-low =
+      let a = length-map (take (c .count - 0) (c .separating)) word-of in
+      let b = length-take (c .count - 0) (c .separating) in
+      let f = c .room in
+      omega arith
 
 -- the cover of a view, with its number of keys
 module _ (v : View) (e keys : ℕ) (c : Cover) (same : keys ≡ keys-of v)

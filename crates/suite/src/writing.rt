@@ -1,6 +1,7 @@
 // The tests for the machine in a row.
 ghost use mathlib.Core.Path.{_≡_};
 ghost use Prim.Native.Nat.{_≤_};
+ghost use lib.ListN.{length};
 ghost use Rattle.machine.specs.Machine.{Minimal};
 ghost use Rattle.machine.specs.Run.{model, keys-of};
 ghost use Rattle.suite.specs.Answer.{Prepared, Tests-answered};
@@ -32,7 +33,8 @@ pub fn prepare(row: &[u64], extra: u64) -> Result<Shape, Refusal>
 // Hands every test for a minimal machine to a sink: each once, in order.
 pub fn each_test_for<S: Sink>(m: Machine, extra: usize, sink: &mut S)
     requires { ⌜ Minimal (keys-of m) (model m) ⌝ ∗ ⌜ extra ≤ 3 ⌝ }
-    ensures { λ _. ⌜ Fed step (tests (keys-of (m .entry)) extra (model (m .entry))) (now (sink .entry)) (now (sink .exit)) ⌝ }
+    ensures fed { λ _. ⌜ Fed step (tests (keys-of (m .entry)) extra (model (m .entry))) (now (sink .entry)) (now (sink .exit)) ⌝ }
+    ensures few { λ _. ⌜ length (tests (keys-of (m .entry)) extra (model (m .entry))) ≤ 10108800 ⌝ }
 {
     let cover = Cover::of(m);
     let keys = m.keys() as u64;

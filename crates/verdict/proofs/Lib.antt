@@ -1,2 +1,4 @@
+pub mod Answered
 pub mod Meaning
 pub mod Parts
+pub mod Taken

@@ -35,7 +35,7 @@ difference-on m ts shown i = difference m (getD ts i []) (shown-on ts shown i)
 
 abbrev pub failed-at : List Word → List ℕ → ℕ → Option Difference → Verdict
 failed-at ts shown i None = Passed
-failed-at ts shown i (Some d) = Failed i (d .key) (getD shown (begins-at ts i + d .key) 0) (d .expected)
+failed-at ts shown i (Some d) = Failed i (d .key) (getD (shown-on ts shown i) (d .key) 0) (d .expected)
 
 abbrev pub first-failed : Machine → List Word → List ℕ → Option ℕ → Verdict
 first-failed m ts shown None = Passed
