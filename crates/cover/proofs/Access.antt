@@ -48,7 +48,7 @@ module _ (k : ℕ) (m : Machine) (s : ℕ) where
         let c = cut-short proper 0 (proper .some) w keys in
         rw (reaching-is-in m s (up-to k (length m)))
         (first-in-up-to k (length m) (λ w. eqb (after m 0 w) s) (λ v. after m 0 v ≡ s) (λ v e. eqb-true _ _ e) (λ v keys e. eq-eqb _ _ e)
-          (c .0) (c .1) (let l = c .2 in omega arith) (c .3 ∙ reached))
+        (c .0) (c .1) (let l = c .2 in omega arith) (c .3 ∙ reached))
 
     pub access-short : (w : Word) → Keys k w → after m 0 w ≡ s → length access-word < length m
     access-short w keys reached = first-short proper 0 (proper .some) s access-word (access-first w keys reached)
@@ -75,4 +75,5 @@ module _ (k : ℕ) (m : Machine) (proper : Proper k m) (minimal : Minimal k m) w
   unfolding after
   access-words-reach = record {
     begins = (0, rw (length-access k m) (proper .some), access-at k m 0 (proper .some) ∙ access-is k m 0 [] (first-empty k (λ v. after m 0 v ≡ 0) refl) (omega arith));
-    every = λ s h. (s, rw (length-access k m) h, access-words-first s h .holds) }
+    every = λ s h. (s, rw (length-access k m) h, access-words-first s h .holds);
+  }

@@ -120,24 +120,26 @@ module _ (k : ℕ) (m : Machine) where
     -- the word of the next pair was kept before
     pub kept-again : (i : ℕ) → i < count → getD (words-of (take count ws)) i [] ≡ telling-word k m t s → Kept-to k m s (t + 1) ws count
     kept-again i l e = record {
-        long = h .long;
-        room = h .room;
-        kept = h .kept ∙ sym (ap (once-from []) (told-more k m s t)
-          ∙ once-again [] (told-to k m s t) (telling-word k m t s) (inr (rw (← h .kept, ← e) (place-mem (words-of (take count ws)) i (rw length-kept l))))) }
+      long = h .long;
+      room = h .room;
+      kept = h .kept ∙ sym (ap (once-from []) (told-more k m s t)
+          ∙ once-again [] (told-to k m s t) (telling-word k m t s) (inr (rw (← h .kept, ← e) (place-mem (words-of (take count ws)) i (rw length-kept l)))));
+    }
 
     -- or is new
     pub kept-more :
         (w : Word) → word-of w ≡ telling-word k m t s → count < 120 → ((i : ℕ) → i < count → getD (words-of (take count ws)) i [] ≡ telling-word k m t s → ⊥) →
         Kept-to k m s (t + 1) (set ws count w) (count + 1)
     kept-more w e room new = record {
-        long = length-set ws count w ∙ h .long;
-        room = omega arith;
-        kept = ap words-of (take-more-set ws count w (let l = h .long in omega arith))
+      long = length-set ws count w ∙ h .long;
+      room = omega arith;
+      kept = ap words-of (take-more-set ws count w (let l = h .long in omega arith))
           ∙ map-push word-of (take count ws) w
           ∙ ap₂ (λ a b. a ++ b ∷ []) (h .kept) e
           ∙ sym (ap (once-from []) (told-more k m s t)
-            ∙ once-new [] (told-to k m s t) (telling-word k m t s) List·Memᴰ·not-nil
-              (λ g. let r = mem-place (telling-word k m t s) (rw (← h .kept) at g) in new (r .0) (let l = r .1 in let n = length-kept in omega arith) (r .2))) }
+          ∙ once-new [] (told-to k m s t) (telling-word k m t s) List·Memᴰ·not-nil
+          (λ g. let r = mem-place (telling-word k m t s) (rw (← h .kept) at g) in new (r .0) (let l = r .1 in let n = length-kept in omega arith) (r .2)));
+    }
 
   -- all pairs were told
   pub kept-all : (ws : List Word) (count : ℕ) → Kept-to k m (length m) 0 ws count → words-of (take count ws) ≡ once-from [] (telling-words k m)

@@ -81,7 +81,7 @@ abbrev pub Filled : ℕ → Machine → ℕ → ℕ → List ℕ → Type 0
 Filled k m b done es =
     (length es ≡ 256)
     × ((s t : ℕ) → s < length m → t < length m →
-       (16 * s + t < done → getD es (16 * s + t) 0 ≡ level k m (suc b) s t) × (done ≤ 16 * s + t → getD es (16 * s + t) 0 ≡ level k m b s t))
+    (16 * s + t < done → getD es (16 * s + t) 0 ≡ level k m (suc b) s t) × (done ≤ 16 * s + t → getD es (16 * s + t) 0 ≡ level k m b s t))
 
 module _ (k : ℕ) (m : Machine) (b : ℕ) (few : length m ≤ 16) where
   pub filled-start : (es : List ℕ) → length es ≡ 256 → Levels-below k m b es → Filled k m b 0 es
@@ -96,28 +96,36 @@ module _ (k : ℕ) (m : Machine) (b : ℕ) (few : length m ≤ 16) where
   module _ (s t : ℕ) (es : List ℕ) (hs : s < length m) (ht : t < length m) (filled : Filled k m b (16 * s + t) es) where
     pub filled-no : alike k m b s t ≡ false → Filled k m b (16 * s + t + 1) es
     unfolding level
-    filled-no e =
-        (filled .0, λ p q hp hq.
-          (λ l. elim (cases-lt (16 * p + q) (16 * s + t)) [
-            | inl below ↦ filled .1 p q hp hq .0 below
-            | inr g ↦
+    filled-no e = (
+      filled .0,
+      λ p q hp hq. (
+        λ l. elim (cases-lt (16 * p + q) (16 * s + t)) [
+          | inl below ↦ filled .1 p q hp hq .0 below
+          | inr g ↦
               let same-s : p ≡ s = omega arith in
               let same-t : q ≡ t = omega arith in
               filled .1 p q hp hq .1 (omega arith) ∙ sym (cond-false (alike k m b p q) (suc b) (level k m b p q) (rw (same-s, same-t) e))
-          ], λ l. filled .1 p q hp hq .1 (omega arith)))
+        ],
+        λ l. filled .1 p q hp hq .1 (omega arith),
+      ),
+    )
 
     pub filled-yes : (v : ℕ) → v ≡ suc b → alike k m b s t ≡ true → Filled k m b (16 * s + t + 1) (set es (16 * s + t) v)
     unfolding level
     filled-yes v is e =
-        let long = filled .0 in
-        (length-set es (16 * s + t) v ∙ filled .0, λ p q hp hq.
-          (λ l. elim (cases-lt (16 * p + q) (16 * s + t)) [
-            | inl below ↦ getD-set-other es (16 * s + t) (16 * p + q) v 0 (λ z. omega arith) ∙ filled .1 p q hp hq .0 below
-            | inr g ↦
-              let same-s : p ≡ s = omega arith in
-              let same-t : q ≡ t = omega arith in
-              rw (same-s, same-t) (getD-set-same es (16 * s + t) v 0 (omega arith) ∙ is ∙ sym (cond-true (alike k m b s t) (suc b) (level k m b s t) e))
-          ], λ l. getD-set-other es (16 * s + t) (16 * p + q) v 0 (λ z. omega arith) ∙ filled .1 p q hp hq .1 (omega arith)))
+        let long = filled .0 in (
+          length-set es (16 * s + t) v ∙ filled .0,
+          λ p q hp hq. (
+            λ l. elim (cases-lt (16 * p + q) (16 * s + t)) [
+              | inl below ↦ getD-set-other es (16 * s + t) (16 * p + q) v 0 (λ z. omega arith) ∙ filled .1 p q hp hq .0 below
+              | inr g ↦
+                  let same-s : p ≡ s = omega arith in
+                  let same-t : q ≡ t = omega arith in
+                  rw (same-s, same-t) (getD-set-same es (16 * s + t) v 0 (omega arith) ∙ is ∙ sym (cond-true (alike k m b s t) (suc b) (level k m b s t) e))
+            ],
+            λ l. getD-set-other es (16 * s + t) (16 * p + q) v 0 (λ z. omega arith) ∙ filled .1 p q hp hq .1 (omega arith),
+          ),
+        )
 
 -- at level 0 all states are alike
 pub levels-begin : (k : ℕ) (m : Machine) → length m ≤ 16 → Levels-below k m 1 (replicate 256 1)

@@ -26,8 +26,9 @@ module _ (k : ℕ) (m : Machine) (t s : ℕ) where
   -- the level of two states says where they are told apart
   pub apart-from-level : (j : ℕ) → level k m (length m) t s ≡ suc j → suc j < length m → Apart k m j t s
   apart-from-level j e h = record {
-      alike-at = level-alike k m (length m) j t s (omega arith);
-      apart-at = elim (cases-bool (alike k m (suc j) t s)) [ inl y ↦ absurd (let l = alike-level k m (length m) (suc j) t s h y in omega arith) | inr n ↦ n ] }
+    alike-at = level-alike k m (length m) j t s (omega arith);
+    apart-at = elim (cases-bool (alike k m (suc j) t s)) [ inl y ↦ absurd (let l = alike-level k m (length m) (suc j) t s h y in omega arith) | inr n ↦ n ];
+  }
 
   pub level-from-apart : (j : ℕ) → Apart k m j t s → suc j < length m → level k m (length m) t s < length m
   level-from-apart j a h =
@@ -65,7 +66,8 @@ module _ (k : ℕ) (m : Machine) (t s : ℕ) where
           second = hq;
           short = omega arith;
           apart = rw (to-p, to-q) (step .1);
-          made = rw (with-key, to-p, to-q) (append-assoc w (x ∷ []) (rest-of k m j (move m p x .to) (move m q x .to)) ∙ ap (λ z. w ++ z) (sym (step .0)) ∙ rw e at (turn .made)) }
+          made = rw (with-key, to-p, to-q) (append-assoc w (x ∷ []) (rest-of k m j (move m p x .to) (move m q x .to)) ∙ ap (λ z. w ++ z) (sym (step .0)) ∙ rw e at (turn .made));
+        }
 
   pub turn-ends : (len left p q : ℕ) (w : Word) → left ≡ 0 → Turn k m t s len left p q w → w ≡ telling-word k m t s
   turn-ends len left p q w e turn = sym (append-nil w) ∙ rw e at (turn .made)

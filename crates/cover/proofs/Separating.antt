@@ -114,8 +114,8 @@ module _ (separation : Short-separation) (k : ℕ) (m : Machine) (proper : Prope
       go (suc n) e =
           elim (cases-bool (alike k m n t s)) [
             | inl y ↦
-              let same = minimal .distinct t s (omega arith) h (separation k m t s proper (omega arith) h (λ w keys short. alike-shows k m n t s y w keys (omega arith))) in
-              absurd (omega arith)
+                let same = minimal .distinct t s (omega arith) h (separation k m t s proper (omega arith) h (λ w keys short. alike-shows k m n t s y w keys (omega arith))) in
+                absurd (omega arith)
             | inr f ↦ let r = first-level k m n t s f in (r .0, (let b = r .1 in omega arith), r .2)
           ]
 
@@ -160,11 +160,12 @@ module _ (separation : Short-separation) (k : ℕ) (m : Machine) (proper : Prope
 
   pub separating-separates : Separates m (separating-words k m)
   separating-separates = record {
-      some = elim (cases-lt 1 (length m)) [ inl h ↦ let r = mem-place (telling-word k m 0 1) (separating-mem 0 1 (omega arith) h) in let l = r .1 in omega arith | inr g ↦ rw (one-state k m g) (omega arith) ];
-      tells = λ s t hs ht same. elim (cases-order s t) [
-        | inl e ↦ e
-        | inr r ↦ elim r [
-          | inl l ↦ let w = separating-first s t l ht in absurd (w .2 .holds (same (w .0) (w .1)))
-          | inr l ↦ let w = separating-first t s l hs in absurd (w .2 .holds (sym (same (w .0) (w .1))))
-        ]
-      ] }
+    some = elim (cases-lt 1 (length m)) [ inl h ↦ let r = mem-place (telling-word k m 0 1) (separating-mem 0 1 (omega arith) h) in let l = r .1 in omega arith | inr g ↦ rw (one-state k m g) (omega arith) ];
+    tells = λ s t hs ht same. elim (cases-order s t) [
+      | inl e ↦ e
+      | inr r ↦ elim r [
+        | inl l ↦ let w = separating-first s t l ht in absurd (w .2 .holds (same (w .0) (w .1)))
+        | inr l ↦ let w = separating-first t s l hs in absurd (w .2 .holds (sym (same (w .0) (w .1))))
+      ]
+    ];
+  }

@@ -120,10 +120,14 @@ module _ (k : ℕ) (m : Machine) (j t s x : ℕ) (apart : Apart k m j t s) (key 
     where
       go : (n : ℕ) → j ≡ n → (i : ℕ) × (j ≡ suc i) × Apart k m i (move m t x .to) (move m s x .to)
       go zero e = absurd (key .here (agree, rw e (alike-zero k m (move m t x .to) (move m s x .to))))
-      go (suc i) e =
-          (i, e, record {
-            alike-at = alike-step k m i t s (rw e at (apart .alike-at)) x (key .inside) .1;
-            apart-at = elim (cases-bool (alike k m (suc i) (move m t x .to) (move m s x .to))) [ inl y ↦ absurd (key .here (agree, rw e y)) | inr n ↦ n ] })
+      go (suc i) e = (
+        i,
+        e,
+        record {
+          alike-at = alike-step k m i t s (rw e at (apart .alike-at)) x (key .inside) .1;
+          apart-at = elim (cases-bool (alike k m (suc i) (move m t x .to) (move m s x .to))) [ inl y ↦ absurd (key .here (agree, rw e y)) | inr n ↦ n ];
+        },
+      )
 
   -- and the first word is this key and the first word of the states behind it
   pub first-behind :
@@ -153,9 +157,9 @@ told-step k m j t s apart lower =
     let x = f .0 in
     elim (cases-eq (move m t x .output) (move m s x .output)) [
       | inl e ↦
-        let b = apart-behind k m j t s x apart (f .1) e in
-        let r = lower (b .0) (move m t x .to) (move m s x .to) (b .1) (b .2) in
-        (x ∷ r .0, first-behind k m j t s x apart (f .1) (r .0) (r .2 ∙ sym (b .1)) e (r .1), ap suc (r .2 ∙ sym (b .1)))
+          let b = apart-behind k m j t s x apart (f .1) e in
+          let r = lower (b .0) (move m t x .to) (move m s x .to) (b .1) (b .2) in
+          (x ∷ r .0, first-behind k m j t s x apart (f .1) (r .0) (r .2 ∙ sym (b .1)) e (r .1), ap suc (r .2 ∙ sym (b .1)))
       | inr d ↦ let r = first-last k m j t s x apart (f .1) d in (x ∷ [], r .1, ap suc (sym (r .0)))
     ]
 
@@ -192,8 +196,8 @@ module _ (k : ℕ) (m : Machine) (j t s : ℕ) (apart : Apart k m j t s) (low : 
       let r = told-at-level k m i (move m t x .to) (move m s x .to) (b .2) in
       let same : w ≡ r .0 = telling-is k m (move m t x .to) (move m s x .to) (r .0) (r .1) (let q = r .2 in omega arith) in
       telling-is k m t s (x ∷ w)
-        (first-behind k m j t s x apart key w (ap length same ∙ r .2 ∙ sym e) agree (rw same (r .1)))
-        (let q : length w ≡ suc i = ap length same ∙ r .2 in omega arith)
+      (first-behind k m j t s x apart key w (ap length same ∙ r .2 ∙ sym e) agree (rw same (r .1)))
+      (let q : length w ≡ suc i = ap length same ∙ r .2 in omega arith)
 
 -- the word that is left to find with so many keys left, and what is known of the states there
 abbrev pub rest-of : ℕ → Machine → ℕ → ℕ → ℕ → Word

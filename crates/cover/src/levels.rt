@@ -19,7 +19,14 @@ impl Levels {
 }
 
 // Whether a key shows the same in two states and leads to states that are alike at a level.
-pub(crate) fn agree_on(m: Machine, levels: Levels, level: usize, s: usize, t: usize, x: usize) -> bool
+pub(crate) fn agree_on(
+    m: Machine,
+    levels: Levels,
+    level: usize,
+    s: usize,
+    t: usize,
+    x: usize,
+) -> bool
     requires { ⌜ Levels-tell (keys-of m) (model m) level (levels .entries) ⌝ }
     ensures { λ r. ⌜ r ≡ agrees-on (keys-of (m .entry)) (model (m .entry)) level s t x ⌝ }
 {

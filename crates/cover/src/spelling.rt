@@ -11,7 +11,10 @@ impl Word {
         ensures value { λ r. ⌜ word-of r ≡ [] ⌝ }
         ensures shortest { λ r. ⌜ r .len ≡ 0 ⌝ }
     {
-        Word { len: 0, keys: [0; 16] }
+        Word {
+            len: 0,
+            keys: [0; 16],
+        }
     }
 
     // The word with one key more behind it.

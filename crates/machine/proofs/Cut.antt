@@ -21,11 +21,12 @@ module _ {k : ℕ} {m : Machine} (proper : Proper k m) (s : ℕ) (inside : s < l
       let a = p .0 in
       let b = p .1 in
       let ab = p .2 in
-      let bn = p .3 in
-      (take a w ++ drop b w,
-       all-append (λ x. x < k) (take a w) (drop b w) (all-take (λ x. x < k) a w keys) (all-drop (λ x. x < k) b w keys),
-       omega (arith, length-append (take a w) (drop b w), length-take-le a w (omega arith), length-drop b w),
-       after-append m s (take a w) (drop b w) ∙ ap (λ z. after m z (drop b w)) (p .4) ∙ sym (after-append m s (take b w) (drop b w)) ∙ ap (after m s) (take-append-drop b w))
+      let bn = p .3 in (
+        take a w ++ drop b w,
+        all-append (λ x. x < k) (take a w) (drop b w) (all-take (λ x. x < k) a w keys) (all-drop (λ x. x < k) b w keys),
+        omega (arith, length-append (take a w) (drop b w), length-take-le a w (omega arith), length-drop b w),
+        after-append m s (take a w) (drop b w) ∙ ap (λ z. after m z (drop b w)) (p .4) ∙ sym (after-append m s (take b w) (drop b w)) ∙ ap (after m s) (take-append-drop b w),
+      )
 
   -- and one with fewer keys than there are states
   pub cut-short : (w : Word) → Keys k w → (v : Word) × Keys k v × (length v < length m) × (after m s v ≡ after m s w)
@@ -37,9 +38,9 @@ module _ {k : ℕ} {m : Machine} (proper : Proper k m) (s : ℕ) (inside : s < l
           elim (cases-lt (length w) (length m)) [
             | inl l ↦ (w, keys, l, refl)
             | inr g ↦
-              let c = cut-loop w keys g in
-              let r = go n (c .0) (c .1) (let l = c .2 in omega arith) in
-              (r .0, r .1, r .2, r .3 ∙ c .3)
+                let c = cut-loop w keys g in
+                let r = go n (c .0) (c .1) (let l = c .2 in omega arith) in
+                (r .0, r .1, r .2, r .3 ∙ c .3)
           ]
 
   -- the first word to a state has fewer keys than there are states

@@ -18,9 +18,10 @@ Rising (w ∷ ws) = ((v : Word) → List·Memᴰ v ws → Before w v) × Rising 
 
 rising-append : (us vs : List Word) → Rising us → Rising vs → ((u v : Word) → List·Memᴰ u us → List·Memᴰ v vs → Before u v) → Rising (us ++ vs)
 rising-append [] vs a b across = b
-rising-append (u ∷ us) vs a b across =
-    ( λ v h. elim (List·Memᴰ·append-cases us h) [ inl l ↦ a .0 v l | inr r ↦ across u v (List·Memᴰ·head refl) r ]
-    , rising-append us vs (a .1) b (λ p q h g. across p q (List·Memᴰ·tail h) g))
+rising-append (u ∷ us) vs a b across = (
+  λ v h. elim (List·Memᴰ·append-cases us h) [ inl l ↦ a .0 v l | inr r ↦ across u v (List·Memᴰ·head refl) r ],
+  rising-append us vs (a .1) b (λ p q h g. across p q (List·Memᴰ·tail h) g),
+)
 
 -- a word in front of each: what stands there, and what is in order stays so
 mem-behind : (x : ℕ) (ws : List Word) (v : Word) → List·Memᴰ v (each-behind (x ∷ []) ws) → (u : Word) × List·Memᴰ u ws × (v ≡ x ∷ u)
@@ -137,13 +138,15 @@ first-in-found p [] v r h passes = absurd (List·Memᴰ·not-nil h)
 first-in-found p (w ∷ ws) v r h passes =
     elim (cases-bool (p w)) [
       | inl y ↦ rw (cond-true (p w) w (first-in p ws) y) (record {
-          member = List·Memᴰ·head refl; passes = y;
-          none = λ u g q. elim (List·Memᴰ·cases-cons g) [ inl e ↦ inl e | inr t ↦ inr (r .0 u t) ] })
+        member = List·Memᴰ·head refl;
+        passes = y;
+        none = λ u g q. elim (List·Memᴰ·cases-cons g) [ inl e ↦ inl e | inr t ↦ inr (r .0 u t) ];
+      })
       | inr n ↦
-        let later : (u : Word) → List·Memᴰ u (w ∷ ws) → p u ≡ true → List·Memᴰ u ws =
+          let later : (u : Word) → List·Memᴰ u (w ∷ ws) → p u ≡ true → List·Memᴰ u ws =
           λ u g q. elim (List·Memᴰ·cases-cons g) [ inl e ↦ absurd (both-ways (p w) n (sym (ap p e) ∙ q)) | inr t ↦ t ] in
-        let f = first-in-found p ws v (r .1) (later v h passes) passes in
-        rw (cond-false (p w) w (first-in p ws) n) (record { member = List·Memᴰ·tail (f .member); passes = f .passes; none = λ u g q. f .none u (later u g q) q })
+          let f = first-in-found p ws v (r .1) (later v h passes) passes in
+          rw (cond-false (p w) w (first-in p ws) n) (record { member = List·Memᴰ·tail (f .member); passes = f .passes; none = λ u g q. f .none u (later u g q) q })
     ]
 
 -- among the words of at most n keys the first that passes a test is the first of all words of which it holds, if some word of at most n keys passes
@@ -154,13 +157,14 @@ module _ (k n : ℕ) (p : Word → Bool) (P : Word → Type 0) (right : (w : Wor
       let w : Word = first-in p (up-to k n) in
       let inside = mem-up-to k n w (f .member) in
       record {
-        keys = inside .0; holds = right w (f .passes);
+        keys = inside .0;
+        holds = right w (f .passes);
         earliest = λ u uk b uh.
-          let s : length u ≤ n = let l = before-longer u w b in let i = inside .1 in omega arith in
-          elim (f .none u (up-to-mem k n u uk s) (complete u uk uh)) [
-            | inl e ↦ before-irreflexive w (rw e at b)
-            | inr g ↦ before-irreflexive w (before-transitive w u w g b)
-          ]
+            let s : length u ≤ n = let l = before-longer u w b in let i = inside .1 in omega arith in
+            elim (f .none u (up-to-mem k n u uk s) (complete u uk uh)) [
+              | inl e ↦ before-irreflexive w (rw e at b)
+              | inr g ↦ before-irreflexive w (before-transitive w u w g b)
+            ];
       }
 
   -- and so the first word of all, if it has at most n keys

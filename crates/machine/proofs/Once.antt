@@ -58,13 +58,13 @@ mem-once-from seen [] w h = absurd (List·Memᴰ·not-nil h)
 mem-once-from seen (v ∷ vs) w h =
     elim (cases-bool (listed v seen)) [
       | inl y ↦
-        let r = mem-once-from seen vs w (rw (cond-true (listed v seen) (once-from seen vs) (v ∷ once-from (v ∷ seen) vs) y) at h) in
-        (List·Memᴰ·tail (r .0), r .1)
+          let r = mem-once-from seen vs w (rw (cond-true (listed v seen) (once-from seen vs) (v ∷ once-from (v ∷ seen) vs) y) at h) in
+          (List·Memᴰ·tail (r .0), r .1)
       | inr n ↦
-        elim (List·Memᴰ·cases-cons (rw (cond-false (listed v seen) (once-from seen vs) (v ∷ once-from (v ∷ seen) vs) n) at h)) [
-          | inl e ↦ (List·Memᴰ·head e, λ g. both-ways (listed v seen) n (rw e at (mem-listed w seen g)))
-          | inr t ↦ let r = mem-once-from (v ∷ seen) vs w t in (List·Memᴰ·tail (r .0), λ g. r .1 (List·Memᴰ·tail g))
-        ]
+          elim (List·Memᴰ·cases-cons (rw (cond-false (listed v seen) (once-from seen vs) (v ∷ once-from (v ∷ seen) vs) n) at h)) [
+            | inl e ↦ (List·Memᴰ·head e, λ g. both-ways (listed v seen) n (rw e at (mem-listed w seen g)))
+            | inr t ↦ let r = mem-once-from (v ∷ seen) vs w t in (List·Memᴰ·tail (r .0), λ g. r .1 (List·Memᴰ·tail g))
+          ]
     ]
 
 -- and each word that was not seen is kept
@@ -74,19 +74,19 @@ once-from-mem seen [] w h = absurd (List·Memᴰ·not-nil h)
 once-from-mem seen (v ∷ vs) w h =
     elim (cases-bool (listed v seen)) [
       | inl y ↦
-        elim (List·Memᴰ·cases-cons h) [
-          | inl e ↦ inl (listed-mem w seen (rw e y))
-          | inr t ↦ rw (cond-true (listed v seen) (once-from seen vs) (v ∷ once-from (v ∷ seen) vs) y) (once-from-mem seen vs w t)
-        ]
-      | inr n ↦
-        rw (cond-false (listed v seen) (once-from seen vs) (v ∷ once-from (v ∷ seen) vs) n)
-        (elim (List·Memᴰ·cases-cons h) [
-          | inl e ↦ inr (List·Memᴰ·head e)
-          | inr t ↦ elim (once-from-mem (v ∷ seen) vs w t) [
-            | inl g ↦ elim (List·Memᴰ·cases-cons g) [ inl e ↦ inr (List·Memᴰ·head e) | inr s ↦ inl s ]
-            | inr g ↦ inr (List·Memᴰ·tail g)
+          elim (List·Memᴰ·cases-cons h) [
+            | inl e ↦ inl (listed-mem w seen (rw e y))
+            | inr t ↦ rw (cond-true (listed v seen) (once-from seen vs) (v ∷ once-from (v ∷ seen) vs) y) (once-from-mem seen vs w t)
           ]
-        ])
+      | inr n ↦
+          rw (cond-false (listed v seen) (once-from seen vs) (v ∷ once-from (v ∷ seen) vs) n)
+          (elim (List·Memᴰ·cases-cons h) [
+            | inl e ↦ inr (List·Memᴰ·head e)
+            | inr t ↦ elim (once-from-mem (v ∷ seen) vs w t) [
+              | inl g ↦ elim (List·Memᴰ·cases-cons g) [ inl e ↦ inr (List·Memᴰ·head e) | inr s ↦ inl s ]
+              | inr g ↦ inr (List·Memᴰ·tail g)
+            ]
+          ])
     ]
 
 -- no word stands twice
@@ -101,8 +101,8 @@ once-from-different seen (v ∷ vs) =
     elim (cases-bool (listed v seen)) [
       | inl y ↦ rw (cond-true (listed v seen) (once-from seen vs) (v ∷ once-from (v ∷ seen) vs) y) (once-from-different seen vs)
       | inr n ↦
-        rw (cond-false (listed v seen) (once-from seen vs) (v ∷ once-from (v ∷ seen) vs) n)
-        (λ h. mem-once-from (v ∷ seen) vs v h .1 (List·Memᴰ·head refl), once-from-different (v ∷ seen) vs)
+          rw (cond-false (listed v seen) (once-from seen vs) (v ∷ once-from (v ∷ seen) vs) n)
+          (λ h. mem-once-from (v ∷ seen) vs v h .1 (List·Memᴰ·head refl), once-from-different (v ∷ seen) vs)
     ]
 
 -- one word more: it was kept before

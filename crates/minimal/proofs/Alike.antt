@@ -1,13 +1,13 @@
 -- States that are alike at a level are those that show the same on words of at most so many keys. Assumes nothing.
-use mathlib.Core.Path.{_≡_, refl, sym, ap, _∙_}
-use mathlib.Core.Bool.{Bool, true, false, _&&_}
+use mathlib.Core.Path.{_≡_, refl, sym, _∙_}
+use mathlib.Core.Bool.{Bool, true, _&&_}
 use mathlib.Core.List.{List, [], _∷_}
 use mathlib.Core.Logic.{inl, inr}
 use Prim.Native.Nat.{ℕ, zero, suc, _<_, _≤_}
 use native.Mathlib.Omega.{arith}
 use lib.Dec.{eqb}
 use lib.ListN.{length}
-use Rattle.std.proofs.shelf.Tests.{cases-lt, and-parts, and-from, and-cases, eqb-true, eq-eqb}
+use Rattle.std.proofs.shelf.Tests.{cases-lt, and-parts, and-from, eqb-true, eq-eqb}
 use Rattle.machine.specs.Machine.{Machine, Word, Keys, Equivalent-states, move, outputs}
 use Rattle.minimal.specs.Levels.{every-below, alike}
 
@@ -22,19 +22,6 @@ pub every-from : (p : ℕ → Bool) (n : ℕ) → ((x : ℕ) → x < n → p x �
 unfolding every-below
 every-from p zero h = refl
 every-from p (suc n) h = and-from (every-below p n) (p n) (every-from p n (λ x l. h x (omega arith))) (h n (omega arith))
-
--- some number fails
-pub every-fails : (p : ℕ → Bool) (n : ℕ) → every-below p n ≡ false → (x : ℕ) × (x < n) × (p x ≡ false)
-unfolding every-below
-every-fails p zero h = absurd (let z : false ≡ true = cc in clash z)
-  where
-    clash : false ≡ true → ⊥
-    clash z = let o : _≡_ {A = ℕ} 0 1 = cc in omega arith
-every-fails p (suc n) h =
-    elim (and-cases (every-below p n) (p n) h) [
-      | inl e ↦ let r = every-fails p n e in (r .0, (let l = r .1 in omega arith), r .2)
-      | inr e ↦ (n, omega arith, e)
-    ]
 
 module _ (k : ℕ) (m : Machine) where
   -- what a key shows in two states, and where it leads

@@ -2,12 +2,12 @@
 use mathlib.Core.Path.{_≡_, refl, sym, ap, _∙_}
 use mathlib.Core.List.{List, [], _∷_, _++_, map}
 use mathlib.Core.Logic.{inl, inr}
-use Prim.Native.Nat.{ℕ, zero, suc, _+_, _-_, _<_, _≤_}
+use Prim.Native.Nat.{ℕ, _+_, _-_, _<_}
 use native.Mathlib.Omega.{arith}
 use lib.ListN.{length, getD, length-append}
 use Rattle.std.proofs.shelf.Lists.{getD-append-left, getD-append-add, getD-map, length-map}
 use Rattle.std.proofs.shelf.Tests.{cases-lt}
-use Rattle.machine.specs.Machine.{Machine, Move, Word, Keys, Proper, Equivalent, move, no-move, outputs}
+use Rattle.machine.specs.Machine.{Machine, Move, Word, Keys, Proper, move, no-move, outputs}
 use Rattle.minimal.specs.Promises.{Short-difference}
 use Rattle.minimal.proofs.Moore.{short-separation}
 

@@ -4,12 +4,12 @@ use mathlib.Core.List.{List, [], _∷_, _++_, append-nil, append-assoc}
 use mathlib.Core.Logic.{_⊎_, inl, inr}
 use Prim.Native.Nat.{ℕ, zero, suc, _+_, _<_, _≤_}
 use native.Mathlib.Omega.{arith}
-use lib.ListN.{length, getD, length-append}
+use lib.ListN.{length, length-append}
 use Rattle.std.proofs.shelf.Elements.{all-push}
 use Rattle.std.proofs.shelf.Lists.{getD-append-left, getD-push, length-push}
-use Rattle.std.proofs.shelf.Tests.{cases-lt, cases-eq, cases-order}
+use Rattle.std.proofs.shelf.Tests.{cases-lt, cases-order}
 use Rattle.machine.specs.Machine.{Word, Keys}
-use Rattle.machine.specs.Words.{Before, First-word}
+use Rattle.machine.specs.Words.{Before}
 use Rattle.machine.proofs.Order.{before-key, before-last, before-transitive, before-irreflexive}
 use Rattle.machine.proofs.Pigeonhole.{pigeonhole}
 use Rattle.minimal.specs.Search.{word-at, Searched}

@@ -1,16 +1,16 @@
 -- There is always a search to its end, and what its words tell. Assumes nothing.
-use mathlib.Core.Path.{_≡_, refl, sym, ap, _∙_}
+use mathlib.Core.Path.{_≡_, sym, ap, _∙_}
 use mathlib.Core.List.{List, [], _∷_, _++_}
-use mathlib.Core.Logic.{_⊎_, inl, inr}
+use mathlib.Core.Logic.{inl, inr}
 use Prim.Native.Nat.{ℕ, zero, suc, _+_, _<_, _≤_}
 use native.Mathlib.Numerals.{add-one}
 use native.Mathlib.Omega.{arith}
 use lib.Dec.{eqb}
-use lib.ListN.{length, getD, length-append}
+use lib.ListN.{length, length-append}
 use Rattle.std.proofs.shelf.Lists.{length-push}
 use Rattle.std.proofs.shelf.Tests.{cases-lt, cases-order, eqb-true, eqb-false}
 use Rattle.machine.specs.Machine.{Machine, Word, Keys, Proper, after}
-use Rattle.machine.specs.Words.{Before, First-word}
+use Rattle.machine.specs.Words.{First-word}
 use Rattle.machine.proofs.First.{first-cases}
 use Rattle.machine.proofs.Order.{before-cases}
 use Rattle.machine.proofs.Pigeonhole.{pigeonhole}

@@ -2,21 +2,20 @@
 use mathlib.Core.Path.{_≡_, refl, sym, ap, _∙_}
 use mathlib.Core.List.{List, [], _∷_, _++_}
 use mathlib.Core.Logic.{_⊎_, _≢_, inl, inr}
-use Prim.Native.Nat.{ℕ, zero, suc, _+_, _<_, _≤_}
+use Prim.Native.Nat.{ℕ, _+_, _<_, _≤_}
 use native.Mathlib.Omega.{arith}
 use lib.Dec.{eqb}
 use lib.ListN.{length, getD, set}
 use Rattle.std.proofs.shelf.Lists.{getD-append-left, getD-push, length-push, getD-set-same, getD-set-other}
 use Rattle.std.proofs.shelf.Tests.{cases-lt, eqb-true, eqb-false, eq-eqb, ne-eqb}
-use Rattle.machine.specs.First.{first}
-use Rattle.machine.specs.Machine.{Machine, Word, Keys, Proper, after, move}
+use Rattle.machine.specs.Machine.{Machine, Word, Keys, Proper, move}
 use Rattle.machine.proofs.First.{first-cases, first-none, first-some}
 use Rattle.minimal.specs.Levels.{class-in, number-or}
 use Rattle.minimal.specs.Quotient.{Congruence, class-after, place}
-use Rattle.minimal.specs.Search.{word-at, Searched, Kept, Search-tree}
+use Rattle.minimal.specs.Search.{word-at, Kept, Search-tree}
 use Rattle.minimal.specs.declared.tree.Tree.{Tree}
 use Rattle.minimal.proofs.FirstWords.{Searching, search-begins, key-known, key-new, word-done, search-room, search-ends}
-use Rattle.minimal.proofs.Quotient.{congruence-low, congruent-after, class-key}
+use Rattle.minimal.proofs.Quotient.{congruent-after, class-key}
 
 -- what does not stand among the first n values has the place n
 pub place-cases : (f : ℕ → ℕ) (n c : ℕ) → ((place f n c ≡ n) × ((j : ℕ) → j < n → f j ≡ c → ⊥)) ⊎ ((place f n c < n) × (f (place f n c) ≡ c))

@@ -1,12 +1,12 @@
 -- With n states, those that are alike at level n - 1 are equivalent: the levels are stable by then. Assumes nothing.
-use mathlib.Core.Path.{_≡_, refl, sym, ap, _∙_}
-use mathlib.Core.Bool.{Bool, true, false}
+use mathlib.Core.Path.{_≡_, sym, _∙_}
+use mathlib.Core.Bool.{Bool, true}
 use Prim.Native.Nat.{ℕ, zero, suc, _-_, _<_, _≤_}
 use native.Mathlib.Omega.{arith}
 use lib.Dec.{eqb}
 use lib.ListN.{length}
 use Rattle.std.proofs.shelf.Tests.{eqb-true, eq-eqb}
-use Rattle.machine.specs.Machine.{Machine, Word, Keys, Proper, Equivalent-states, move, outputs}
+use Rattle.machine.specs.Machine.{Machine, Proper, Equivalent-states}
 use Rattle.machine.proofs.Runs.{move-below}
 use Rattle.minimal.specs.Levels.{alike, class-at}
 use Rattle.minimal.specs.Promises.{Short-separation}

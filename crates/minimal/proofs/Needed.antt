@@ -1,7 +1,6 @@
 -- States that a machine needs: reached, and equivalent to no smaller one. Assumes nothing.
 use mathlib.Core.Path.{_≡_, refl, sym, ap, _∙_, fun-ext}
-use mathlib.Core.List.{List}
-use mathlib.Core.Logic.{_⊎_, inl, inr}
+use mathlib.Core.Logic.{inl, inr}
 use Prim.Native.Nat.{ℕ, _<_, _≤_}
 use native.Mathlib.Omega.{arith}
 use lib.ListN.{length}
@@ -9,11 +8,11 @@ use Rattle.std.proofs.shelf.Tests.{cases-order}
 use Rattle.machine.specs.Machine.{Machine, Word, Keys, Proper, Minimal, Equivalent-states, after, move}
 use Rattle.machine.proofs.Runs.{after-below}
 use Rattle.minimal.specs.Levels.{class-in}
-use Rattle.minimal.specs.Minimal.{Redundant, First-redundant}
+use Rattle.minimal.specs.Minimal.{Redundant}
 use Rattle.minimal.specs.Quotient.{Congruence, Equivalence, class-after, place}
-use Rattle.minimal.specs.Search.{word-at, Searched, Kept, Search-tree}
+use Rattle.minimal.specs.Search.{word-at, Search-tree}
 use Rattle.minimal.specs.declared.tree.Tree.{Tree}
-use Rattle.minimal.proofs.Growing.{place-cases, placed, unplaced}
+use Rattle.minimal.proofs.Growing.{placed, unplaced}
 
 -- classes of one state each
 module _ (k : ℕ) (m : Machine) (class : ℕ → ℕ) (own : (s : ℕ) → s < length m → class s ≡ s) where

@@ -1,8 +1,8 @@
 -- The machine made of the classes that a search finds is the minimal machine. Assumes nothing.
 use mathlib.Core.Path.{_≡_, refl, sym, ap, _∙_}
 use mathlib.Core.List.{List, [], _∷_, _++_, map}
-use mathlib.Core.Logic.{_⊎_, inl, inr}
-use Prim.Native.Nat.{ℕ, zero, suc, _+_, _<_, _≤_}
+use mathlib.Core.Logic.{inl, inr}
+use Prim.Native.Nat.{ℕ, suc, _<_, _≤_}
 use native.Mathlib.Omega.{arith}
 use lib.Dec.{eqb}
 use lib.ListN.{length, getD}
@@ -10,15 +10,13 @@ use Rattle.std.specs.Iters.{counting}
 use Rattle.std.proofs.shelf.Counted.{length-map-counting, getD-map-counting}
 use Rattle.std.proofs.shelf.Elements.{all-push}
 use Rattle.std.proofs.shelf.Tests.{eqb-true, eq-eqb, both-ways}
-use Rattle.std.specs.declared.option.Option.{Option}
-use Rattle.std.specs.declared.option.Option.the-variants.{Some, None}
 use Rattle.machine.specs.First.{first}
-use Rattle.machine.specs.Machine.{Machine, Move, Word, Keys, Proper, Minimal, Same-outputs, Equivalent, Equivalent-states, move, no-move, outputs, after}
-use Rattle.machine.specs.Words.{Before, First-word}
+use Rattle.machine.specs.Machine.{Machine, Word, Keys, Proper, Minimal, Equivalent, Equivalent-states, move, no-move, outputs, after}
+use Rattle.machine.specs.Words.{Before}
 use Rattle.machine.proofs.First.{first-cases}
 use Rattle.machine.proofs.Order.{before-transitive}
 use Rattle.machine.proofs.Runs.{after-append, after-below, move-below}
-use Rattle.minimal.specs.Levels.{number-or, class-at}
+use Rattle.minimal.specs.Levels.{class-at}
 use Rattle.minimal.specs.Minimal.{Minimal-machine}
 use Rattle.minimal.specs.Promises.{Minimal-exists}
 use Rattle.minimal.specs.Quotient.{Congruence, Equivalence, class-after, place, quotient, quotient-move}

@@ -1,14 +1,13 @@
 -- One round of refinement leads from the classes at a level to those at the next. Assumes nothing.
-use mathlib.Core.Path.{_≡_, refl, sym, ap, _∙_}
-use mathlib.Core.Bool.{Bool, true, false, _&&_}
+use mathlib.Core.Path.{_≡_, sym, ap, _∙_}
+use mathlib.Core.Bool.{Bool, true, false}
 use mathlib.Core.List.{List}
 use mathlib.Core.Logic.{inl, inr}
-use Prim.Native.Nat.{ℕ, zero, suc, _<_, _≤_}
+use Prim.Native.Nat.{ℕ, suc, _<_, _≤_}
 use native.Mathlib.Omega.{arith}
 use lib.Dec.{eqb}
-use lib.ListN.{length, getD}
-use Rattle.std.proofs.shelf.Tests.{cases-lt, cases-bool, and-parts, and-from, both-ways, eqb-true, eq-eqb, ne-eqb, and-left, and-right}
-use Rattle.std.specs.declared.option.Option.the-variants.{Some, None}
+use lib.ListN.{length}
+use Rattle.std.proofs.shelf.Tests.{cases-bool, and-parts, and-from, both-ways, eqb-true, eq-eqb, ne-eqb, and-left, and-right}
 use Rattle.machine.specs.First.{first}
 use Rattle.machine.specs.Machine.{Machine, Proper, move, outputs}
 use Rattle.machine.proofs.First.{first-cases, first-none, first-some}
@@ -17,7 +16,7 @@ use Rattle.minimal.specs.Levels.{every-below, alike, number-or, class-at, clas
 use Rattle.minimal.specs.Quotient.{Equivalence}
 use Rattle.minimal.proofs.Alike.{every-holds, every-from, alike-step, alike-from, alike-zero}
 use Rattle.minimal.proofs.Quotient.{levels-equivalence}
-use Rattle.minimal.proofs.Smallest.{Smallest, class-smallest, class-same, class-tells, smallest-unique}
+use Rattle.minimal.proofs.Smallest.{class-smallest, class-same, class-tells}
 
 module _ (k : ℕ) (m : Machine) (of : List ℕ) (s : ℕ) where
   -- a state below s in which every key agrees, and none below it

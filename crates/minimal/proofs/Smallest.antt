@@ -1,16 +1,13 @@
 -- The smallest state that is alike to a state at a level: two states are alike exactly if these are one. Assumes nothing.
-use mathlib.Core.Path.{_≡_, refl, sym, ap, _∙_}
-use mathlib.Core.Bool.{Bool, true, false}
-use mathlib.Core.Logic.{_⊎_, inl, inr}
-use Prim.Native.Nat.{ℕ, zero, suc, _<_, _≤_}
+use mathlib.Core.Path.{_≡_}
+use mathlib.Core.Bool.{true}
+use mathlib.Core.Logic.{inl, inr}
+use Prim.Native.Nat.{ℕ, suc, _<_, _≤_}
 use native.Mathlib.Omega.{arith}
 use Rattle.std.proofs.shelf.Tests.{cases-lt, both-ways}
-use Rattle.std.specs.declared.option.Option.{Option}
-use Rattle.std.specs.declared.option.Option.the-variants.{Some, None}
-use Rattle.machine.specs.First.{first}
 use Rattle.machine.specs.Machine.{Machine}
-use Rattle.machine.proofs.First.{first-cases, first-none, first-some, Found}
-use Rattle.minimal.specs.Levels.{alike, number-or, class-at}
+use Rattle.machine.proofs.First.{first-cases}
+use Rattle.minimal.specs.Levels.{alike, class-at}
 use Rattle.minimal.proofs.Alike.{alike-itself, alike-back, alike-through, alike-lower}
 
 -- what makes a number the smallest of those alike to s
@@ -35,9 +32,6 @@ module _ (k : ℕ) (m : Machine) (j : ℕ) where
           least = λ t e. elim (cases-lt t (b .0)) [ inl l ↦ absurd (both-ways (alike k m j t s) (f .none t l) e) | inr g ↦ g ];
         })
       ]
-
-  pub smallest-unique : (s r q : ℕ) → Smallest k m j s r → Smallest k m j s q → r ≡ q
-  smallest-unique s r q a b = let x = a .least q (b .passes) in let y = b .least r (a .passes) in omega arith
 
   pub class-same : (s t : ℕ) → alike k m j s t ≡ true → class-at k m j s ≡ class-at k m j t
   class-same s t e =

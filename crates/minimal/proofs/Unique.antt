@@ -1,20 +1,20 @@
 -- A minimal machine has the fewest states; two minimal machines that are equivalent are one but for the numbers of their states,
 -- and with their states numbered by first words they are one. Assumes nothing.
-use mathlib.Core.Path.{_≡_, refl, sym, ap, _∙_}
+use mathlib.Core.Path.{_≡_, sym, ap, _∙_}
 use mathlib.Core.List.{List, [], _∷_, _++_}
-use mathlib.Core.Logic.{_⊎_, inl, inr}
+use mathlib.Core.Logic.{inl, inr}
 use Prim.Native.Nat.{ℕ, zero, suc, _+_, _-_, _<_, _≤_}
 use native.Mathlib.Omega.{arith}
 use lib.ListN.{length, getD}
 use Rattle.std.proofs.shelf.Elements.{all-append}
 use Rattle.std.proofs.shelf.Lists.{ext-getD}
 use Rattle.std.proofs.shelf.Tests.{cases-lt, cases-order}
-use Rattle.machine.specs.Machine.{Machine, Move, Word, Keys, Proper, Minimal, Same-outputs, Equivalent, Equivalent-states, move, no-move, outputs, after}
-use Rattle.machine.specs.Words.{Before, First-word}
+use Rattle.machine.specs.Machine.{Machine, Move, Word, Keys, Proper, Minimal, Same-outputs, Equivalent, move, no-move, outputs, after}
+use Rattle.machine.specs.Words.{Before}
 use Rattle.machine.proofs.Order.{before-transitive}
 use Rattle.machine.proofs.Pigeonhole.{pigeonhole}
-use Rattle.machine.proofs.Runs.{outputs-front, outputs-behind, after-append, after-below, move-below}
-use Rattle.minimal.specs.Minimal.{Minimal-machine, Numbered}
+use Rattle.machine.proofs.Runs.{outputs-behind, after-below, move-below}
+use Rattle.minimal.specs.Minimal.{Numbered}
 use Rattle.minimal.specs.Promises.{Renaming, Minimal-unique, Minimal-numbered-unique}
 use Rattle.minimal.proofs.Found.{first-access}
 

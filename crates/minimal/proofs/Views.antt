@@ -1,9 +1,8 @@
 -- The machine that a view shows: it is proper, and small. Assumes nothing.
-use mathlib.Core.Path.{_≡_, sym}
-use Prim.Native.Nat.{ℕ, _<_, _≤_}
+use Prim.Native.Nat.{_≤_}
 use native.Mathlib.Omega.{arith}
 use lib.ListN.{length}
-use Rattle.machine.specs.Machine.{Machine, Proper}
+use Rattle.machine.specs.Machine.{Proper}
 use Rattle.machine.specs.Run.{model, keys-of}
 use Rattle.machine.specs.declared.view.Machine.{Machine as View}
 use Rattle.machine.proofs.Views.{view-accepted, view-states, view-proper}

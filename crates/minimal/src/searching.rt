@@ -1,7 +1,7 @@
 // Breadth first search over classes of states, keys in order: each class is found by the first word in order that reaches it.
 ghost use mathlib.Core.Path.{_≡_};
 ghost use Prim.Native.Nat.{_+_, _<_};
-ghost use lib.ListN.{getD, set};
+ghost use lib.ListN.{set};
 ghost use Rattle.machine.specs.Machine.{after};
 ghost use Rattle.machine.specs.Run.{model, keys-of};
 ghost use Rattle.minimal.specs.Levels.{class-in};

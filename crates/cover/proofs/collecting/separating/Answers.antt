@@ -38,12 +38,13 @@ pairs-again-then-same c =
     let m = c .args .m in
     let i = c .loop-i .i in
     let l = c .loop-i-test .taken in
-    let inv = c .pairs .inv .1 in
-    ( c .pairs .inv .0
-    , kept-again (m .keys) (model m) (c .loop-s .s) (c .pairs .t) (c .pairs .words) (c .pairs .count) inv i l
-        (kept-at (m .keys) (model m) (c .loop-s .s) (c .pairs .t) (c .pairs .words) (c .pairs .count) inv i (c .index-words-i .result) l
-        ∙ same-true _ _ (sym (c .same .ensures) ∙ c .if-same .taken)
-        ∙ c .telling-word-word .ensures))
+    let inv = c .pairs .inv .1 in (
+      c .pairs .inv .0,
+      kept-again (m .keys) (model m) (c .loop-s .s) (c .pairs .t) (c .pairs .words) (c .pairs .count) inv i l
+          (kept-at (m .keys) (model m) (c .loop-s .s) (c .pairs .t) (c .pairs .words) (c .pairs .count) inv i (c .index-words-i .result) l
+          ∙ same-true _ _ (sym (c .same .ensures) ∙ c .if-same .taken)
+          ∙ c .telling-word-word .ensures),
+    )
 
 pub loop-i-again : need.loop-i-again
 loop-i-again c =
@@ -51,15 +52,16 @@ loop-i-again c =
     let i = c .loop-i .i in
     let l = c .loop-i-test .taken in
     below-more _ _ (c .loop-i .inv)
-      (λ e. same-false _ _ (sym (c .same .ensures) ∙ c .if-same .left)
-        (sym (kept-at (m .keys) (model m) (c .loop-s .s) (c .pairs .t) (c .pairs .words) (c .pairs .count) (c .pairs .inv .1) i (c .index-words-i .result) l) ∙ e))
+    (λ e. same-false _ _ (sym (c .same .ensures) ∙ c .if-same .left)
+    (sym (kept-at (m .keys) (model m) (c .loop-s .s) (c .pairs .t) (c .pairs .words) (c .pairs .count) (c .pairs .inv .1) i (c .index-words-i .result) l) ∙ e))
 
 pub index-words-count : need.index-words-count
 index-words-count c =
     let m = c .args .m in
     let f = few-states m in
     let hs = c .pairs .inv .0 in
-    kept-room (m .keys) (model m) (c .loop-s .s) (c .pairs .t) (c .pairs .words) (c .pairs .count) (c .pairs .inv .1) (omega arith) (c .pairs-test .taken)
+    let room = kept-room (m .keys) (model m) (c .loop-s .s) (c .pairs .t) (c .pairs .words) (c .pairs .count) (c .pairs .inv .1) (omega arith) (c .pairs-test .taken) in
+    omega arith
 
 pub pairs-again : need.pairs-again
 pairs-again c =
@@ -67,18 +69,19 @@ pairs-again c =
     let f = few-states m in
     let hs = c .pairs .inv .0 in
     let inv = c .pairs .inv .1 in
-    let end = c .loop-i-test .left in
-    ( hs
-    , kept-more (m .keys) (model m) (c .loop-s .s) (c .pairs .t) (c .pairs .words) (c .pairs .count) inv (c .telling-word-word .result) (c .telling-word-word .ensures)
-        (kept-room (m .keys) (model m) (c .loop-s .s) (c .pairs .t) (c .pairs .words) (c .pairs .count) inv (omega arith) (c .pairs-test .taken))
-        (λ i l e. c .loop-i .inv i (omega arith) (e ∙ sym (c .telling-word-word .ensures))))
+    let end = c .loop-i-test .left in (
+      hs,
+      kept-more (m .keys) (model m) (c .loop-s .s) (c .pairs .t) (c .pairs .words) (c .pairs .count) inv (c .telling-word-word .result) (c .telling-word-word .ensures)
+          (kept-room (m .keys) (model m) (c .loop-s .s) (c .pairs .t) (c .pairs .words) (c .pairs .count) inv (omega arith) (c .pairs-test .taken))
+          (λ i l e. c .loop-i .inv i (omega arith) (e ∙ sym (c .telling-word-word .ensures))),
+    )
 
 pub loop-s-again : need.loop-s-again
 loop-s-again c =
     let m = c .args .m in
     let end : c .pairs .t ≡ c .loop-s .s = (let a = c .pairs-test .left in let k = c .pairs .kept .t-end in omega arith) in
     kept-row (m .keys) (model m) (c .loop-s .s) (c .pairs .words) (c .pairs .count)
-      (subst (λ t. Kept-to (m .keys) (model m) (c .loop-s .s) t (c .pairs .words) (c .pairs .count)) end (c .pairs .inv .1))
+    (subst (λ t. Kept-to (m .keys) (model m) (c .loop-s .s) t (c .pairs .words) (c .pairs .count)) end (c .pairs .inv .1))
 
 pub returns : need.returns
 returns c =
@@ -87,5 +90,5 @@ returns c =
     let l = c .if-states-le1 .left in
     let end : c .loop-s .s ≡ length (model m) = (let a = c .loop-s-test .left in let k = c .loop-s .kept .s-end in let z = c .states-s-end .ensures in omega arith) in
     kept-all (m .keys) (model m) (c .loop-s .words) (c .loop-s .count)
-      (subst (λ s. Kept-to (m .keys) (model m) s 0 (c .loop-s .words) (c .loop-s .count)) end (c .loop-s .inv))
+    (subst (λ s. Kept-to (m .keys) (model m) s 0 (c .loop-s .words) (c .loop-s .count)) end (c .loop-s .inv))
     ∙ sym (several-states (m .keys) (model m) (omega arith))

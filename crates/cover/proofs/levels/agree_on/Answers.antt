@@ -13,5 +13,5 @@ returns-then-output c =
     let p = c .next .ensures in
     let q = c .next-then-output .ensures in
     agrees-same (c .args .m .keys) (model (c .args .m)) (c .args .level) (c .args .s) (c .args .t) (c .args .x) (c .next .result) (c .next-then-output .result) (c .at .result)
-      (p .value) (q .value) (ap (ltb (c .args .level)) (c .at .ensures) ∙ c .pre _ _ (p .inside) (q .inside))
-      (sym (c .output .ensures .value) ∙ c .if-output .taken ∙ c .output-2 .ensures .value)
+    (p .value) (q .value) (ap (ltb (c .args .level)) (c .at .ensures) ∙ c .pre _ _ (p .inside) (q .inside))
+    (sym (c .output .ensures .value) ∙ c .if-output .taken ∙ c .output-2 .ensures .value)

@@ -17,7 +17,8 @@ round-levels-requires c κs =
     let same : c .loop-level .level ≡ suc (c .loop-level .level - 1) = (let k = c .loop-level .kept .level in omega arith) in
     record {
       table = subst (λ b. Levels-below (m .keys) (model m) b (c .loop-level .levels .0)) same (c .loop-level .inv .1);
-      low = let f = few-states m in let a = c .loop-level-test .taken in let e = c .states-level-end .ensures in omega arith }
+      low = let f = few-states m in let a = c .loop-level-test .taken in let e = c .states-level-end .ensures in omega arith;
+    }
 
 pub loop-level-again : need.loop-level-again
 loop-level-again c =

@@ -37,15 +37,16 @@ loop-t-again c =
     let hs = c .loop-t .inv .0 in
     let ht : t < length (model m) = (let a = c .loop-t-test .taken in let e = c .states-t-end .ensures in omega arith) in
     let next : 16 * s + t + 1 ≡ 16 * s + (t + 1) = omega arith in
-    let known = c .loop-t .inv .1 in
-    ( hs
-    , subst (λ n. Filled (m .keys) (model m) b n (c .if-alike-above .entries)) next
-        (elim (c .if-alike-above .came) [
-          | then-alike-above w ↦ rw (w .entries-is)
-              (filled-yes (m .keys) (model m) b (few-states m) s t (c .loop-t .entries) hs ht known (c .args .level + 2) (omega arith) (sym (c .alike-above .ensures) ∙ w .if-alike-above .taken))
-          | else-alike-above w ↦ rw (w .entries-is)
-              (filled-no (m .keys) (model m) b (few-states m) s t (c .loop-t .entries) hs ht known (sym (c .alike-above .ensures) ∙ w .if-alike-above .left))
-        ]))
+    let known = c .loop-t .inv .1 in (
+      hs,
+      subst (λ n. Filled (m .keys) (model m) b n (c .if-alike-above .entries)) next
+          (elim (c .if-alike-above .came) [
+            | then-alike-above w ↦ rw (w .entries-is)
+                (filled-yes (m .keys) (model m) b (few-states m) s t (c .loop-t .entries) hs ht known (c .args .level + 2) (omega arith) (sym (c .alike-above .ensures) ∙ w .if-alike-above .taken))
+            | else-alike-above w ↦ rw (w .entries-is)
+                (filled-no (m .keys) (model m) b (few-states m) s t (c .loop-t .entries) hs ht known (sym (c .alike-above .ensures) ∙ w .if-alike-above .left))
+          ]),
+    )
 
 pub loop-s-again : need.loop-s-again
 loop-s-again c =
@@ -53,7 +54,7 @@ loop-s-again c =
     let b : ℕ = suc (c .args .level) in
     let end : c .loop-t .t ≡ length (model m) = (let a = c .loop-t-test .left in let e = c .states-t-end .ensures in let k = c .loop-t .kept .t-end in omega arith) in
     filled-row (m .keys) (model m) b (few-states m) (c .loop-s .s) (c .loop-t .entries)
-      (subst (λ n. Filled (m .keys) (model m) b (16 * c .loop-s .s + n) (c .loop-t .entries)) end (c .loop-t .inv .1))
+    (subst (λ n. Filled (m .keys) (model m) b (16 * c .loop-s .s + n) (c .loop-t .entries)) end (c .loop-t .inv .1))
 
 pub returns : need.returns
 returns c =
@@ -61,4 +62,4 @@ returns c =
     let b : ℕ = suc (c .args .level) in
     let end : c .loop-s .s ≡ length (model m) = (let a = c .loop-s-test .left in let e = c .states-s-end .ensures in let k = c .loop-s .kept .s-end in omega arith) in
     filled-end (m .keys) (model m) b (few-states m) (c .loop-s .entries)
-      (subst (λ n. Filled (m .keys) (model m) b (16 * n) (c .loop-s .entries)) end (c .loop-s .inv))
+    (subst (λ n. Filled (m .keys) (model m) b (16 * n) (c .loop-s .entries)) end (c .loop-s .inv))

@@ -4,7 +4,7 @@ use lib.ListN.{length, getD}
 use Rattle.machine.specs.Run.{model}
 use Rattle.machine.proofs.Views.{view-proper}
 use Rattle.cover.proofs.Entries.{few-states}
-use Rattle.cover.proofs.Reached.{found-inside, parent-inside, planted-short, planted-more, planted-all}
+use Rattle.cover.proofs.Reached.{found-inside, parent-inside, placed-short, placed-more, placed-all}
 use Rattle.cover.proofs.reaching.access.Needs as need
 
 pub offset-words-parent : need.offset-words-parent
@@ -12,7 +12,7 @@ offset-words-parent c =
     let m = c .args .m in
     let t = c .reach-tree .ensures in
     let few = few-states m in
-    let l = parent-inside (m .keys) (model m) (view-proper m) few (c .reach-tree .result) (t .0) (t .1) (t .2) (c .loop-j .j) (c .loop-j .kept .j) (c .loop-j-test .taken) in
+    let l = parent-inside (m .keys) (model m) (view-proper m) few (c .reach-tree .result) (t .0) (t .1) (t .2) (c .loop-j .j) (let b = c .loop-j .kept .j in omega arith) (c .loop-j-test .taken) in
     omega arith
 
 pub listed : need.listed
@@ -21,7 +21,7 @@ listed c =
     let t = c .reach-tree .ensures in
     let few = few-states m in
     let long = c .loop-j .inv .0 in
-    let l = parent-inside (m .keys) (model m) (view-proper m) few (c .reach-tree .result) (t .0) (t .1) (t .2) (c .loop-j .j) (c .loop-j .kept .j) (c .loop-j-test .taken) in
+    let l = parent-inside (m .keys) (model m) (view-proper m) few (c .reach-tree .result) (t .0) (t .1) (t .2) (c .loop-j .j) (let b = c .loop-j .kept .j in omega arith) (c .loop-j-test .taken) in
     omega arith
 
 pub index-words-parent : need.index-words-parent
@@ -29,7 +29,7 @@ index-words-parent c =
     let m = c .args .m in
     let t = c .reach-tree .ensures in
     let few = few-states m in
-    let l = parent-inside (m .keys) (model m) (view-proper m) few (c .reach-tree .result) (t .0) (t .1) (t .2) (c .loop-j .j) (c .loop-j .kept .j) (c .loop-j-test .taken) in
+    let l = parent-inside (m .keys) (model m) (view-proper m) few (c .reach-tree .result) (t .0) (t .1) (t .2) (c .loop-j .j) (let b = c .loop-j .kept .j in omega arith) (c .loop-j-test .taken) in
     omega arith
 
 pub with-requires : need.with-requires
@@ -37,11 +37,11 @@ with-requires c κs =
     let m = c .args .m in
     let t = c .reach-tree .ensures in
     let p = getD (c .reach-tree .result .parents) (c .loop-j .j) 0 in
-    let before = t .2 .parents (c .loop-j .j) (c .loop-j .kept .j) (c .loop-j-test .taken) in
+    let before = t .2 .parents (c .loop-j .j) (let b = c .loop-j .kept .j in omega arith) (c .loop-j-test .taken) in
     let few = c .reach-tree .result .few in
     let last = c .loop-j-test .taken in
-    let short = planted-short (m .keys) (model m) (view-proper m) (few-states m) (c .reach-tree .result) (t .0) (t .1) (t .2) (c .loop-j .j) (c .loop-j .words) (c .loop-j .inv)
-      p (c .index-words-parent .result) before (omega arith) in
+    let short = placed-short (m .keys) (model m) (view-proper m) (few-states m) (c .reach-tree .result) (t .0) (t .1) (t .2) (c .loop-j .j) (c .loop-j .words) (c .loop-j .inv)
+    p (c .index-words-parent .result) before (omega arith) in
     omega arith
 
 pub offset-words-tree : need.offset-words-tree
@@ -63,8 +63,8 @@ index-words-tree c =
 pub loop-j-again : need.loop-j-again
 loop-j-again c =
     let m = c .args .m in
-    planted-more (m .keys) (model m) (view-proper m) (few-states m) (c .reach-tree .result) (c .loop-j .j) (c .loop-j .words) (c .loop-j .inv) (c .with .result) (c .index-words-parent .result)
-      (c .loop-j .kept .j) (c .loop-j-test .taken) (c .with .ensures .value)
+    placed-more (m .keys) (model m) (view-proper m) (few-states m) (c .reach-tree .result) (c .loop-j .j) (c .loop-j .words) (c .loop-j .inv) (c .with .result) (c .index-words-parent .result)
+    (let b = c .loop-j .kept .j in omega arith) (c .loop-j-test .taken) (c .with .ensures .value)
 
 pub returns : need.returns
 returns c =
@@ -72,4 +72,5 @@ returns c =
     let t = c .reach-tree .ensures in
     record {
       long = c .loop-j .inv .0;
-      value = planted-all (m .keys) (model m) (view-proper m) (few-states m) (c .reach-tree .result) (t .0) (t .1) (t .2) (c .pre) (c .loop-j .j) (c .loop-j .words) (c .loop-j-test .left) (c .loop-j .inv) }
+      value = placed-all (m .keys) (model m) (view-proper m) (few-states m) (c .reach-tree .result) (t .0) (t .1) (t .2) (c .pre) (c .loop-j .j) (c .loop-j .words) (c .loop-j-test .left) (c .loop-j .inv);
+    }

@@ -6,7 +6,7 @@ use lib.ListN.{length}
 use Rattle.machine.specs.Run.{model}
 use Rattle.minimal.specs.Levels.{class-in}
 use Rattle.minimal.proofs.Needed.{needed-state, needed-minimal, needed-not-redundant, redundant-class, redundant-place}
-use Rattle.minimal.proofs.Views.{few-states, proper-view}
+use Rattle.minimal.proofs.Views.{few-states}
 use Rattle.minimal.proofs.redundancy.redundant.Needs as need
 
 pub offset-classes-state : need.offset-classes-state

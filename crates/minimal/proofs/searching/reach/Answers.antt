@@ -1,7 +1,4 @@
-use mathlib.Core.Path.{_≡_}
-use Prim.Native.Nat.{ℕ, _<_}
 use native.Mathlib.Omega.{arith}
-use lib.ListN.{length}
 use Rattle.machine.specs.Run.{model, keys-of}
 use Rattle.minimal.specs.Levels.{class-in}
 use Rattle.minimal.proofs.Needed.{own-congruence, own-search}

@@ -1,14 +1,10 @@
-use mathlib.Core.Path.{_≡_, refl, sym, ap, _∙_}
-use mathlib.Core.List.{[], _∷_, _++_}
-use Prim.Native.Nat.{ℕ, _<_}
+use mathlib.Core.Path.{_≡_, ap, _∙_}
+use Prim.Native.Nat.{_<_}
 use native.Mathlib.Omega.{arith}
 use lib.ListN.{length, set}
-use Rattle.machine.specs.Machine.{Word, after}
+use Rattle.machine.specs.Machine.{after}
 use Rattle.machine.specs.Run.{model, keys-of}
-use Rattle.minimal.specs.Levels.{class-in}
-use Rattle.minimal.specs.Quotient.{class-after}
-use Rattle.minimal.specs.Search.{word-at}
-use Rattle.minimal.proofs.Growing.{Growing, grows-root, grows-known, grows-room, grows-new, grows-done, grows-ends, placed, unplaced, behind-is}
+use Rattle.minimal.proofs.Growing.{grows-root, grows-known, grows-room, grows-new, grows-done, grows-ends, placed, unplaced, behind-is}
 use Rattle.minimal.proofs.Quotient.{congruence-low}
 use Rattle.minimal.proofs.Views.{few-states, proper-view}
 use Rattle.minimal.proofs.searching.search.Needs as need

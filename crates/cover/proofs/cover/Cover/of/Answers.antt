@@ -13,9 +13,10 @@ use Rattle.cover.proofs.Separating.{separating-separates, separating-first, se
 use Rattle.cover.proofs.cover.Cover.of.Needs as need
 
 pub ghost-result : need.ghost-result
-ghost-result c =
-    ( (let f = few-states (c .args .m) in let e = c .states-states .ensures in omega arith)
-    , (c .access-access .ensures .long, (c .separating-kept .result .few, (c .separating-kept .result .long, tt))))
+ghost-result c = (
+  (let f = few-states (c .args .m) in let e = c .states-states .ensures in omega arith),
+  (c .access-access .ensures .long, ((let f = c .separating-kept .result .few in omega arith), (c .separating-kept .result .long, tt))),
+)
 
 pub returns : need.returns
 returns c =
@@ -23,7 +24,7 @@ returns c =
     let k = m .keys in
     let proper = view-proper m in
     let a : words-of (take (c .states-states .result) (c .access-access .result)) ≡ access-words k (model m) =
-      ap (λ n. words-of (take n (c .access-access .result))) (c .states-states .ensures) ∙ c .access-access .ensures .value in
+    ap (λ n. words-of (take n (c .access-access .result))) (c .states-states .ensures) ∙ c .access-access .ensures .value in
     let b : words-of (take (c .separating-kept .result .count) (c .separating-kept .result .words)) ≡ separating-words k (model m) = c .separating-kept .ensures in
     record {
       access = a;
@@ -34,4 +35,5 @@ returns c =
       telling = subst (Telling-first k (model m)) (sym b) (separating-first short-separation k (model m) proper (c .pre));
       needed = subst (All-telling k (model m)) (sym b) (separating-only short-separation k (model m) proper (c .pre));
       once = subst Each-once (sym b) (separating-once short-separation k (model m) proper (c .pre));
-      short = (subst (Fewer-keys (model m)) (sym a) (access-words-fewer k (model m) proper (c .pre)), subst (Fewer-keys (model m)) (sym b) (separating-short short-separation k (model m) proper (c .pre))) }
+      short = (subst (Fewer-keys (model m)) (sym a) (access-words-fewer k (model m) proper (c .pre)), subst (Fewer-keys (model m)) (sym b) (separating-short short-separation k (model m) proper (c .pre)));
+    }

@@ -10,7 +10,7 @@ pub returns-then-self-other : need.returns-then-self-other
 returns-then-self-other c =
     let a = c .args .self in
     let b = c .args .other in
-    longer-differs (a .keys) (b .keys) (a .len) (b .len) (omega arith) (omega arith) (c .if-self-other .taken)
+    longer-differs (a .keys) (b .keys) (a .len) (b .len) (omega arith) (omega arith) (let d = c .if-self-other .taken in λ e. omega arith)
 
 pub returns-then-self-i : need.returns-then-self-i
 returns-then-self-i c =
@@ -35,4 +35,4 @@ returns c =
     let l = c .loop-i-test .left in
     let k = c .loop-i .kept .i-end in
     let end : c .loop-i .i ≡ a .len = omega arith in
-    all-same (a .keys) (b .keys) (a .len) (b .len) (c .if-self-other .left) (rw end at (c .loop-i .inv))
+    all-same (a .keys) (b .keys) (a .len) (b .len) (let e = c .if-self-other .left in omega arith) (rw end at (c .loop-i .inv))
