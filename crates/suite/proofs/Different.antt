@@ -1,19 +1,19 @@
 -- Lists in which no word stands twice, and keeping each word once. Assumes nothing.
-use mathlib.Core.Path.{_≡_, refl, sym, ap, _∙_, subst}
-use mathlib.Core.Bool.{Bool, true, false, not, cond, _||_, _&&_}
-use mathlib.Core.List.{List, [], _∷_, _++_, map, List·Memᴰ, List·Memᴰ·head, List·Memᴰ·tail, List·Memᴰ·not-nil, List·Memᴰ·cases-cons, List·Memᴰ·append-cases, List·Memᴰ·eq-of-singleton, Memᴰ·cast, Memᴰ·append-left, Memᴰ·append-right, Memᴰ·map, Memᴰ·of-map}
-use mathlib.Core.Logic.{_⊎_, inl, inr}
-use Prim.Native.Nat.{ℕ, zero, suc, _+_, _<_, _≤_}
+use mathlib.Core.Path.{_≡_, refl, sym, ap, _∙_}
+use mathlib.Core.Bool.{Bool, true, false, not, _||_}
+use mathlib.Core.List.{List, [], _∷_, _++_, map, List·Memᴰ·head, List·Memᴰ·tail, List·Memᴰ·not-nil, List·Memᴰ·cases-cons, List·Memᴰ·append-cases, Memᴰ·cast, Memᴰ·append-right, Memᴰ·of-map}
+use mathlib.Core.Logic.{inl, inr}
+use Prim.Native.Nat.{ℕ, zero, suc, _+_, _<_}
 use native.Mathlib.Omega.{arith}
-use lib.ListN.{length, getD, take, drop, length-append}
+use lib.ListN.{length, take}
 use Rattle.std.specs.Iters.{counting}
 use Rattle.std.specs.shelf.Lists.{All, kept-by}
-use Rattle.std.proofs.shelf.Lists.{append-nil, append-cancel-left, take-at, drop-at}
-use Rattle.std.proofs.shelf.Tests.{cases-bool, cases-lt, or-cases, or-left, or-right, or-parts, or-from, both-ways}
-use Rattle.machine.specs.Machine.{Word, Keys}
+use Rattle.std.proofs.shelf.Lists.{append-cancel-left, take-at}
+use Rattle.std.proofs.shelf.Tests.{cases-bool, or-cases, or-right, or-parts, both-ways}
+use Rattle.machine.specs.Machine.{Word}
 use Rattle.machine.specs.Words.{each-behind, products, single-keys, of-length, same, listed, once-from, once}
 use Rattle.suite.specs.Kept.{Different, without}
-use Rattle.suite.proofs.Members.{In, in-listed, listed-in, same-true, eq-same, of-products, of-single, of-of-length, in-all}
+use Rattle.suite.proofs.Members.{In, in-listed, listed-in, same-true, eq-same, of-products, of-single, in-all}
 
 -- two tests that follow from each other are one
 pub same-tests : (a b : Bool) → (a ≡ true → b ≡ true) → (b ≡ true → a ≡ true) → a ≡ b

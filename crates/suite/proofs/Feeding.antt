@@ -1,23 +1,20 @@
 -- Handing words on, one list after the other, and the lists that the enumeration is made of. Assumes nothing.
 use mathlib.Core.Path.{_≡_, refl, sym, ap, _∙_, subst}
-use mathlib.Core.Bool.{Bool, true, false, not, cond}
-use mathlib.Core.List.{List, [], _∷_, _++_, map, append-assoc}
-use Prim.Native.Nat.{ℕ, zero, suc, _+_, _<_, _≤_}
+use mathlib.Core.Bool.{true, false, not, cond}
+use mathlib.Core.List.{List, [], _∷_, _++_}
+use Prim.Native.Nat.{ℕ, _+_, _<_, _≤_}
 use native.Mathlib.Omega.{arith}
 use lib.ListN.{length, getD, take, length-map}
-use Rattle.std.specs.Iters.{counting}
-use Rattle.std.specs.shelf.Lists.{kept-by}
-use Rattle.std.proofs.shelf.Counted.{map-counting-more}
 use Rattle.std.proofs.shelf.Elements.{kept-by-append}
-use Rattle.std.proofs.shelf.Lists.{append-nil, map-append, take-more, take-all, take-append-le}
+use Rattle.std.proofs.shelf.Lists.{append-nil, map-append, take-more, take-append-le}
 use Rattle.cover.specs.declared.words.Word.{Word as By-value}
 use Rattle.cover.specs.Words.{word-of, words-of}
 use Rattle.machine.specs.Machine.{Word}
-use Rattle.machine.specs.Words.{each-behind, products, single-keys, of-length}
+use Rattle.machine.specs.Words.{each-behind}
 use Rattle.suite.specs.Enumeration.{Fed, fresh-behind}
-use Rattle.suite.specs.Kept.{repeats, without, kept-behind, kept-from, kept}
+use Rattle.suite.specs.Kept.{repeats, without}
 use Rattle.suite.proofs.Places.{word-at}
-use Rattle.suite.proofs.Taken-apart.{products-append, products-behind, each-behind-append}
+use Rattle.suite.proofs.Taken-apart.{each-behind-append}
 
 module _ {S : Type 0} (step : S → Word → S → Type 0) where
   pub fed-append : (us vs : List Word) (s m t : S) → Fed step us s m → Fed step vs m t → Fed step (us ++ vs) s t

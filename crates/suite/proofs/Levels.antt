@@ -1,10 +1,9 @@
 -- The lists that the enumeration hands on, key by key, length by length, and word in front by word in front. Assumes nothing.
-use mathlib.Core.Path.{_≡_, refl, sym, ap, _∙_, subst}
-use mathlib.Core.List.{List, [], _∷_, _++_, map, append-assoc}
+use mathlib.Core.Path.{_≡_, refl, sym, ap, _∙_}
+use mathlib.Core.List.{List, [], _∷_, _++_, append-assoc}
 use Prim.Native.Nat.{ℕ, zero, suc, _+_, _-_, _<_, _≤_}
 use native.Mathlib.Omega.{arith}
 use lib.ListN.{length, getD, take, length-map}
-use Rattle.std.specs.Iters.{counting}
 use Rattle.std.proofs.shelf.Counted.{map-counting-more}
 use Rattle.std.proofs.shelf.Lists.{append-nil, map-id, take-more, take-all, take-map}
 use Rattle.cover.specs.declared.words.Word.{Word as By-value}
@@ -12,9 +11,9 @@ use Rattle.cover.specs.Words.{word-of, words-of}
 use Rattle.machine.specs.Machine.{Word}
 use Rattle.machine.specs.Words.{each-behind, products, single-keys, of-length}
 use Rattle.suite.specs.Enumeration.{fresh-behind}
-use Rattle.suite.specs.Kept.{repeats, without, kept-behind, kept-from, kept}
+use Rattle.suite.specs.Kept.{kept-behind, kept-from, kept}
 use Rattle.suite.proofs.Feeding.{fresh-append, fresh-front}
-use Rattle.suite.proofs.Places.{word-at, take-from-zero}
+use Rattle.suite.proofs.Places.{word-at}
 use Rattle.suite.proofs.Taken-apart.{products-append, products-behind}
 
 -- the words of no key, each followed by the ends

@@ -1,12 +1,12 @@
 -- Equal words place by place, and words by value in a slice. Assumes nothing.
-use mathlib.Core.Path.{_≡_, refl, sym, ap, _∙_, subst}
-use mathlib.Core.Bool.{Bool, true, false}
-use mathlib.Core.List.{List, [], _∷_, _++_}
-use mathlib.Core.Logic.{_⊎_, inl, inr}
-use Prim.Native.Nat.{ℕ, zero, suc, min, _+_, _-_, _<_, _≤_}
+use mathlib.Core.Path.{_≡_, sym, ap, _∙_}
+use mathlib.Core.Bool.{true, false}
+use mathlib.Core.List.{List, []}
+use mathlib.Core.Logic.{inl, inr}
+use Prim.Native.Nat.{ℕ, _-_, _<_}
 use native.Mathlib.Omega.{arith}
-use lib.ListN.{length, getD, take, drop, length-take}
-use Rattle.std.proofs.shelf.Lists.{ext-getD, getD-map, getD-default, take-all}
+use lib.ListN.{length, getD, take, length-take}
+use Rattle.std.proofs.shelf.Lists.{ext-getD, getD-map}
 use Rattle.std.proofs.shelf.Tests.{cases-bool}
 use Rattle.machine.specs.Words.{same}
 use Rattle.cover.specs.declared.words.Word.{Word}

@@ -1,10 +1,10 @@
 -- Writing a word into a row, key by key. Assumes nothing.
-use mathlib.Core.Path.{_≡_, refl, sym, ap, _∙_, subst}
+use mathlib.Core.Path.{_≡_, sym, ap, _∙_}
 use mathlib.Core.List.{List, [], _∷_, _++_, append-assoc}
-use Prim.Native.Nat.{ℕ, zero, suc, _+_, _-_, _<_, _≤_}
+use Prim.Native.Nat.{ℕ, suc, _+_, _<_, _≤_}
 use native.Mathlib.Omega.{arith}
-use lib.ListN.{length, getD, set, take, drop, length-append, length-take, length-set}
-use Rattle.std.proofs.shelf.Lists.{append-nil, take-append-drop, take-more, take-more-set, take-all, drop-more, drop-set-lt, set-at}
+use lib.ListN.{length, getD, set, take, drop, length-append, length-take}
+use Rattle.std.proofs.shelf.Lists.{take-append-drop, take-more, take-more-set, take-all, drop-more, drop-set-lt, set-at}
 
 -- a row in which the first i of a word stand from place p on
 abbrev pub splice : List ℕ → ℕ → List ℕ → ℕ → List ℕ

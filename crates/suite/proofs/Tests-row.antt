@@ -1,11 +1,11 @@
 -- Counting tests, writing them into a row, and reading them back. Assumes nothing.
-use mathlib.Core.Path.{_≡_, refl, sym, ap, _∙_, subst}
+use mathlib.Core.Path.{_≡_, refl, sym, ap, _∙_}
 use mathlib.Core.List.{List, [], _∷_, _++_, append-assoc}
 use Prim.Native.Nat.{ℕ, zero, suc, min, _+_, _-_, _^_, _<_, _≤_}
 use native.Mathlib.Omega.{arith}
 use denote.Ref.{now, name}
 use lib.ListN.{length, getD, set, take, drop, length-append, length-take, length-set}
-use Rattle.std.proofs.shelf.Lists.{append-nil, take-append-drop, take-at, drop-at, drop-drop, getD-at, take-more-set, drop-set-lt}
+use Rattle.std.proofs.shelf.Lists.{take-append-drop, take-at, drop-at, drop-drop, getD-at, take-more-set, drop-set-lt}
 use Rattle.cover.specs.Words.{words-of}
 use Rattle.machine.specs.Machine.{Word}
 use Rattle.machine.specs.Row.{word-in}
@@ -18,7 +18,7 @@ use Rattle.suite.specs.Kept.{kept}
 use Rattle.suite.specs.Promises.{Tests-read-back}
 use Rattle.suite.specs.Sinks.{Tallied, Wrote}
 use Rattle.suite.specs.Suite.{with-key, suite}
-use Rattle.suite.specs.Written.{Makes-tests, word-out, words-out, room-for, tests-row, test-place, words-in}
+use Rattle.suite.specs.Written.{Makes-tests, word-out, words-out, room-for, tests-row, words-in}
 use Rattle.suite.proofs.Once.{suite-kept}
 
 -- a row needs a number for each test at least

@@ -1,10 +1,10 @@
 -- What follows from passing the tests: statements, each proved on the contract of a function. Assumes nothing.
 use mathlib.Core.Path.{_≡_}
-use mathlib.Core.List.{List, [], _∷_, _++_}
+use mathlib.Core.List.{List, [], _++_}
 use Prim.Native.Nat.{ℕ, zero, suc, _+_, _*_, _^_, _<_, _≤_}
 use lib.ListN.{length, getD}
 use Rattle.std.specs.shelf.Lists.{All, Has}
-use Rattle.machine.specs.Machine.{Machine, Word, Keys, Proper, Minimal, Equivalent}
+use Rattle.machine.specs.Machine.{Machine, Word, Keys, Proper, Equivalent}
 use Rattle.machine.specs.Row.{word-in}
 use Rattle.cover.specs.Cover.{Reaches, Separates, separating-words}
 use Rattle.suite.specs.Kept.{Different, kept}

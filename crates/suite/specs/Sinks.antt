@@ -1,5 +1,5 @@
 -- What taking a test makes of a sink that counts and of one that writes. Assumes nothing: these are definitions.
-use mathlib.Core.List.{List, _∷_, _++_}
+use mathlib.Core.List.{_++_}
 use mathlib.Core.Path.{_≡_}
 use Prim.Native.Nat.{ℕ, suc, min, _+_, _^_, _≤_}
 use denote.Ref.{now, name}

@@ -1,8 +1,7 @@
 -- The tests, and what it is to pass them. Assumes nothing: these are definitions.
 use mathlib.Core.Path.{_≡_}
-use mathlib.Core.List.{List, [], _∷_, _++_}
-use Prim.Native.Nat.{ℕ, _<_}
-use lib.ListN.{length, getD}
+use mathlib.Core.List.{List, _++_}
+use Prim.Native.Nat.{ℕ}
 use Rattle.std.specs.shelf.Lists.{All}
 use Rattle.machine.specs.Machine.{Machine, Word, outputs}
 use Rattle.machine.specs.Words.{products, single-keys, up-to, once}

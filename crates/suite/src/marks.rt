@@ -4,7 +4,7 @@ ghost use mathlib.Core.Path.{_≡_};
 ghost use Prim.Native.Nat.{ℕ, _+_, _<_, _≤_};
 ghost use lib.ListN.{length, getD};
 ghost use Rattle.cover.specs.Words.{words-of};
-ghost use Rattle.suite.specs.Enumeration.{within, marked, Fitting};
+ghost use Rattle.suite.specs.Enumeration.{within, marked};
 use crate::apart::begins;
 use crate::values::Against;
 use crate::values::Marks;

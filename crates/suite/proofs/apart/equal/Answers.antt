@@ -1,4 +1,4 @@
-use mathlib.Core.Path.{_≡_, sym}
+use mathlib.Core.Path.{sym}
 use native.Mathlib.Omega.{arith}
 use Rattle.suite.proofs.Places.{same-places, other-length, other-place}
 use Rattle.suite.proofs.apart.equal.Needs as need

@@ -1,7 +1,3 @@
-use mathlib.Core.Bool.{Bool}
-use mathlib.Core.List.{List}
-use Prim.Native.Nat.{ℕ}
-use Rattle.cover.specs.Words.{words-of}
 use Rattle.suite.specs.Enumeration.{ends-marked}
 use Rattle.suite.proofs.Any.{search-more, search-found, search-none}
 use Rattle.suite.proofs.apart.some_end_marked.Needs as need

@@ -1,6 +1,3 @@
-use mathlib.Core.Bool.{Bool}
-use mathlib.Core.List.{List}
-use Prim.Native.Nat.{ℕ}
 use Rattle.cover.specs.Words.{words-of}
 use Rattle.suite.specs.Kept.{parts}
 use Rattle.suite.proofs.Any.{search-more, search-found, search-none}

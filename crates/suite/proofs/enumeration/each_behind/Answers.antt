@@ -1,5 +1,5 @@
 use mathlib.Core.Path.{_≡_, ap}
-use Prim.Native.Nat.{suc, _+_}
+use Prim.Native.Nat.{suc}
 use native.Mathlib.Omega.{arith}
 use Rattle.cover.specs.Words.{word-of, words-of}
 use Rattle.suite.specs.Enumeration.{candidate-of}

@@ -1,8 +1,8 @@
-use mathlib.Core.Path.{_≡_, ap, subst}
+use mathlib.Core.Path.{_≡_, subst}
 use mathlib.Core.List.{_++_}
 use Prim.Native.Nat.{_+_}
 use native.Mathlib.Omega.{arith}
-use lib.ListN.{length, take, length-take}
+use lib.ListN.{take, length-take}
 use Rattle.suite.proofs.Writes.{write-more, write-front}
 use Rattle.suite.proofs.enumeration.end_with.Needs as need
 

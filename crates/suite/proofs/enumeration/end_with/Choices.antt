@@ -1,7 +1,7 @@
 use mathlib.Core.List.{_++_}
 use mathlib.Core.Path.{_≡_}
 use Prim.Native.Nat.{_+_}
-use lib.ListN.{length, take}
+use lib.ListN.{take}
 use Rattle.suite.proofs.enumeration.end_with.Given as given
 
 abbrev pub Inv-loop-i : given.InvT-loop-i

@@ -1,6 +1,6 @@
 use mathlib.Core.List.{[], _++_}
 use mathlib.Core.Path.{_≡_}
-use Prim.Native.Nat.{_+_, _*_, _<_}
+use Prim.Native.Nat.{_+_, _*_}
 use lib.ListN.{length, getD, take}
 use Rattle.cover.specs.Words.{words-of}
 use Rattle.machine.specs.Words.{each-behind, products, single-keys}

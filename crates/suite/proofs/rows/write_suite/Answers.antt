@@ -1,12 +1,11 @@
 use mathlib.Core.List.{List}
-use mathlib.Core.Path.{_≡_, refl, sym, ap, subst, _∙_}
-use Prim.Native.Nat.{ℕ, min, _+_, _-_, _^_, _<_, _≤_}
+use mathlib.Core.Path.{_≡_, refl, ap}
+use Prim.Native.Nat.{ℕ, min, _+_, _-_, _^_, _≤_}
 use native.Mathlib.Omega.{arith}
 use borrow.Author.Needs.{needs}
 use lib.ListN.{length, take, length-map, length-set}
 use Rattle.machine.specs.declared.refusals.Refusal.the-variants.{NoRoomForTests}
 use Rattle.machine.specs.Machine.{Word}
-use Rattle.cover.specs.declared.words.Word.{Word as By-value}
 use Rattle.cover.specs.Words.{word-of, words-of}
 use Rattle.suite.specs.declared.fronts.Fronts.{Fronts}
 use Rattle.suite.specs.declared.sinks.Tally.{Tally}
