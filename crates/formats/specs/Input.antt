@@ -2,7 +2,7 @@
 -- Assumes nothing: these are definitions.
 use mathlib.Core.Path.{_≡_}
 use mathlib.Core.List.{List, map}
-use Prim.Native.Nat.{ℕ, _+_, _*_, _/_}
+use Prim.Native.Nat.{ℕ, _+_, _*_, _/_, _≤_}
 use lib.Dec.{leb}
 use lib.ListN.{length, getD}
 use Rattle.std.specs.Iters.{counting}
@@ -37,5 +37,6 @@ input-refusal bytes row =
 
 -- how an input is read, row being its numbers
 abbrev pub Input-read : List ℕ → List ℕ → Result Input Refusal → Type 0
-Input-read bytes row (Ok input) = (input-refusal bytes row ≡ None) × Heads row (input .shape) × (input .extra ≡ getD bytes (extra-place row) 0)
+Input-read bytes row (Ok input) =
+    (input-refusal bytes row ≡ None) × Heads row (input .shape) × (input .extra ≡ getD bytes (extra-place row) 0) × (input .rest ≡ extra-place row + 1) × (input .rest ≤ length bytes)
 Input-read bytes row (Err f) = input-refusal bytes row ≡ Some (reason-of f)

@@ -10,11 +10,12 @@ use machine::Shape;
 use std::alloc::AllocError;
 use std::alloc::Global;
 
-// A machine's shape and the number of extra states.
+// A machine's shape, the number of extra states, and where the bytes behind that begin.
 #[derive(Clone, Copy)]
 pub struct Input {
     pub shape: Shape,
     pub extra: u8,
+    pub rest: usize,
 }
 
 // The number in four bytes, low byte first.
@@ -49,5 +50,9 @@ pub fn read_input(bytes: &[u8], row: &[u64]) -> Result<Input, Refusal>
     }
     let extra = bytes[place];
     let shape = machine::read(row)?;
-    Ok(Input { shape, extra })
+    Ok(Input {
+        shape,
+        extra,
+        rest: place + 1,
+    })
 }

@@ -1,4 +1,5 @@
 use mathlib.Core.Path.{_≡_, sym, ap, _∙_}
+use Prim.Native.Nat.{_+_}
 use native.Mathlib.Omega.{arith}
 use lib.ListN.{getD}
 use Rattle.std.proofs.shelf.Results.{err-from-errBy}
@@ -40,4 +41,6 @@ returns c =
       past-extra (c .args .bytes .now) (c .args .row .now) _ (told .0) (told .1) (c .if-place-bytes .left) ∙ again .accepted,
       again .head,
       ap (λ i. getD (c .args .bytes .now) i 0) (place-is (c .args .bytes .now) (c .args .row .now) _ (told .0) (told .1)),
+      ap (λ i. i + 1) (place-is (c .args .bytes .now) (c .args .row .now) _ (told .0) (told .1)),
+      (let l = c .if-place-bytes .left in omega arith),
     )
