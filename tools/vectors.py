@@ -119,9 +119,59 @@ def reading():
             yield left.split(" / ")[0], right
 
 
+def numbered_verdicts():
+    """The cases of judging, with the number of the failed test: the place of its word among the tests of its row."""
+    for left, right in cases("verdicts"):
+        if right.startswith("refused"):
+            _, number, _, place = right.split()
+            right = f"{number} {place}"
+        elif right.startswith("failed"):
+            _, word, rest = right.split(" ", 2)
+            row, extra, _ = left.split("/")
+            right = f"failed {all_tests(list(map(int, row.split())), int(extra)).index(word)} {rest}"
+        yield left, right
+
+
+def all_tests(row, extra):
+    """The tests of a minimal machine, straight from their definition."""
+    n, k = row[0], row[1]
+    move = lambda s, x: (row[2 + 2 * (s * k + x)], row[3 + 2 * (s * k + x)])
+
+    def run(s, word):
+        shown = []
+        for x in word:
+            s, output = move(s, x)
+            shown.append(output)
+        return s, shown
+
+    # words in order, until every state and every pair has its first word
+    access, apart, words = {}, {}, [()]
+    while len(access) < n or len(apart) < n * (n - 1) // 2:
+        for word in words:
+            access.setdefault(run(0, word)[0], word)
+            for s in range(n):
+                for t in range(s):
+                    if (s, t) not in apart and run(s, word)[1] != run(t, word)[1]:
+                        apart[(s, t)] = word
+        words = [word + (x,) for word in words for x in range(k)]
+    ends = list(dict.fromkeys(apart[(s, t)] for s in range(n) for t in range(s))) or [()]
+    fronts = [access[s] for s in range(n)]
+    fronts += [word + (x,) for word in fronts for x in range(k)]
+    between, layer = [()], [()]
+    for _ in range(extra):
+        layer = [word + (x,) for word in layer for x in range(k)]
+        between += layer
+    tests = dict.fromkeys(f + b + w for f in fronts for b in between for w in ends)
+    return ["".join(map(str, test)) or "-" for test in tests]
+
+
 section("read", reading())
 section("minimize", cases("minimize"))
 section("words", cases("words"))
+section("tests", cases("tests"))
+section("large", cases("large"))
+section("refusals", cases("refusals"))
+section("verdicts", numbered_verdicts())
 section("survivor", ((" / ".join([" ".join(map(str, row)), str(longest), str(room)]), survivor(row, longest, room)) for row, longest, room in SURVIVORS))
 open("crates/vectors/stdin", "w").write("\n".join(stdin) + "\n")
 open("crates/vectors/stdout", "w").write("\n".join(stdout) + "\n")

@@ -1,12 +1,17 @@
 // Runs stored cases through the libraries: a line `== NAME` begins the cases of one kind, each further line is a case.
 mod machines;
 mod survivors;
+mod tests_cases;
 mod text;
 
 use machines::minimize_case;
 use machines::read_case;
 use machines::words_case;
 use survivors::survivor_case;
+use tests_cases::large_case;
+use tests_cases::refusal_case;
+use tests_cases::tests_case;
+use tests_cases::verdict_case;
 use std::error::AnyError;
 use std::io::Read;
 
@@ -16,6 +21,10 @@ enum Kind {
     Minimize,
     Words,
     Survivor,
+    Tests,
+    Large,
+    Refusal,
+    Verdict,
 }
 
 fn kind_named(name: &str) -> Result<Kind, AnyError> {
@@ -24,6 +33,10 @@ fn kind_named(name: &str) -> Result<Kind, AnyError> {
         "minimize" => Ok(Kind::Minimize),
         "words" => Ok(Kind::Words),
         "survivor" => Ok(Kind::Survivor),
+        "tests" => Ok(Kind::Tests),
+        "large" => Ok(Kind::Large),
+        "refusals" => Ok(Kind::Refusal),
+        "verdicts" => Ok(Kind::Verdict),
         _ => Err("no such kind of case".into()),
     }
 }
@@ -34,6 +47,10 @@ fn run_case(rt: &LibcRuntime, kind: Kind, text: &str) -> Result<(), AnyError> {
         Kind::Minimize => minimize_case(rt, text),
         Kind::Words => words_case(rt, text),
         Kind::Survivor => survivor_case(rt, text),
+        Kind::Tests => tests_case(rt, text),
+        Kind::Large => large_case(rt, text),
+        Kind::Refusal => refusal_case(rt, text),
+        Kind::Verdict => verdict_case(rt, text),
     }
 }
 
