@@ -6,7 +6,11 @@ use std::alloc::AllocError;
 use std::alloc::Global;
 
 // The tests for the machine in a row, as `suite::write_tests` writes them: first how many numbers they need is asked, then so many are lent.
-pub fn tests_row(heap: Global, row: &[u64], extra: u64) -> Result<Result<Vec<u64>, Refusal>, AllocError>
+pub fn tests_row(
+    heap: Global,
+    row: &[u64],
+    extra: u64,
+) -> Result<Result<Vec<u64>, Refusal>, AllocError>
     ensures { λ r. ⌜ made r (λ answer. Tests-made (now (row .entry)) extra answer) ⌝ }
 {
     let mut none = [0u64; 1];

@@ -6,7 +6,12 @@ use std::io::Read;
 use verdict::Verdict;
 
 // The verdict on what was shown; bytes left over are something behind the last test, where what was shown is not cut short before them.
-fn verdict_on(row: &[u64], extra: u64, shown: &mut Vec<u64>, left_over: bool) -> Result<Result<Verdict, Refusal>, AnyError> {
+fn verdict_on(
+    row: &[u64],
+    extra: u64,
+    shown: &mut Vec<u64>,
+    left_over: bool,
+) -> Result<Result<Verdict, Refusal>, AnyError> {
     let verdict = verdict::judge(row, extra, &*shown);
     if !left_over || verdict.is_err() {
         return Ok(verdict);
@@ -25,8 +30,19 @@ fn test_numbered(tests: &[u64], number: u64) -> &[u64] {
     suite::test_at(tests, place)
 }
 
-fn print_failure(rt: &LibcRuntime, row: &[u64], extra: u64, failed: Verdict) -> Result<(), AnyError> {
-    let Verdict::Failed { test, key, shown, expected } = failed else {
+fn print_failure(
+    rt: &LibcRuntime,
+    row: &[u64],
+    extra: u64,
+    failed: Verdict,
+) -> Result<(), AnyError> {
+    let Verdict::Failed {
+        test,
+        key,
+        shown,
+        expected,
+    } = failed
+    else {
         return Ok(rt.println("passed")?);
     };
     let Ok(tests) = formats::tests_row(rt.alloc(), row, extra)? else {

@@ -49,8 +49,8 @@ module _ (m : Machine) (w : Word) (seen : List ℕ) where
   same-difference l e =
       let n = length-outputs m 0 w in
       elim (first-cases (differs-at (outputs m 0 w) seen) (length w)) [
-        inl a ↦ ext-getD 0 seen (outputs m 0 w) (omega arith) (λ j h. eqb-true _ _ (not-false _ (or-parts _ _ (a .1 j (omega arith)) .1)))
-      | inr b ↦ absurd (let s = ap (at-key (outputs m 0 w)) (b .1) in let z : _≡_ {A = ℕ} 0 1 = cc in omega arith)
+        | inl a ↦ ext-getD 0 seen (outputs m 0 w) (omega arith) (λ j h. eqb-true _ _ (not-false _ (or-parts _ _ (a .1 j (omega arith)) .1)))
+        | inr b ↦ absurd (let s = ap (at-key (outputs m 0 w)) (b .1) in let z : _≡_ {A = ℕ} 0 1 = cc in omega arith)
       ]
 
   -- a difference is at a key of the word
@@ -58,6 +58,6 @@ module _ (m : Machine) (w : Word) (seen : List ℕ) where
   unfolding difference
   difference-inside d e =
       elim (first-cases (differs-at (outputs m 0 w) seen) (length w)) [
-        inl a ↦ absurd (let s = ap (at-key (outputs m 0 w)) (a .0) in let z : _≡_ {A = ℕ} 0 1 = cc in omega arith)
-      | inr b ↦ let s = ap (at-key (outputs m 0 w)) (b .1) in let k : d .key ≡ b .0 = cc in let i = b .2 .inside in omega arith
+        | inl a ↦ absurd (let s = ap (at-key (outputs m 0 w)) (a .0) in let z : _≡_ {A = ℕ} 0 1 = cc in omega arith)
+        | inr b ↦ let s = ap (at-key (outputs m 0 w)) (b .1) in let k : d .key ≡ b .0 = cc in let i = b .2 .inside in omega arith
       ]

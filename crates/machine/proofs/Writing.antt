@@ -115,8 +115,8 @@ length-head before n w = length-set (set before 0 n) 1 w ∙ length-set before 0
 
 -- where a move is written there is room
 pub move-room :
-  (k n j x at states keys long : ℕ) (before : List ℕ) → states ≡ n → keys ≡ k → j < states → x < keys → at ≡ 2 + 2 * (j * k + x) → room n k ≤ length before →
-  long ≡ length (set (set before 0 states) 1 keys) → at + 1 < long
+    (k n j x at states keys long : ℕ) (before : List ℕ) → states ≡ n → keys ≡ k → j < states → x < keys → at ≡ 2 + 2 * (j * k + x) → room n k ≤ length before →
+    long ≡ length (set (set before 0 states) 1 keys) → at + 1 < long
 move-room k n j x at states keys long before is-n is-k hj hx e fits same =
     let d : j * k + x < n * k = digits-lt (rw is-n at hj) (rw is-k at hx) in
     let h = length-head before states keys in

@@ -22,8 +22,8 @@ module _ {X : Type 0} (f : X → List ℕ) (c : ℕ) (e : X) where
 
   -- the number at place i of piece s
   pub getD-joined :
-    (xs : List X) → ((s : ℕ) → s < length xs → length (f (getD xs s e)) ≡ c) → (s i : ℕ) → s < length xs → i < c →
-    getD (joined f xs) (s * c + i) 0 ≡ getD (f (getD xs s e)) i 0
+      (xs : List X) → ((s : ℕ) → s < length xs → length (f (getD xs s e)) ≡ c) → (s i : ℕ) → s < length xs → i < c →
+      getD (joined f xs) (s * c + i) 0 ≡ getD (f (getD xs s e)) i 0
   getD-joined [] all s i h l = absurd (omega arith)
   getD-joined (x ∷ xs) all zero i h l =
       ap (λ j. getD (f x ++ joined f xs) j 0) (ap (λ z. z + i) (zero-mul c) ∙ zero-add i)
@@ -89,9 +89,9 @@ module _ (k : ℕ) (m : Machine) (full : (s : ℕ) → s < length m → length (
         let n = written-states in
         let w = written-keys in
         let to : target-at row (s * k + x) ≡ move m s x .to =
-            ap (λ j. getD row j 0) (omega arith) ∙ written-at s x 0 h l (omega arith) rest in
+        ap (λ j. getD row j 0) (omega arith) ∙ written-at s x 0 h l (omega arith) rest in
         let output : output-at row (s * k + x) ≡ move m s x .output =
-            ap (λ j. getD row j 0) (omega arith) ∙ written-at s x 1 h l (omega arith) rest in
+        ap (λ j. getD row j 0) (omega arith) ∙ written-at s x 1 h l (omega arith) rest in
         move-in row s x (omega arith) (omega arith) ∙ ap (λ z. move-at row (s * z + x)) w ∙ (λ i. record { to = to i; output = output i })
 
     -- a written row holds the machine that was written
@@ -103,6 +103,6 @@ module _ (k : ℕ) (m : Machine) (full : (s : ℕ) → s < length m → length (
         let w = written-keys in
         let states = length-machine-in row in
         ext-getD [] (machine-in row) m (omega arith) (λ s h.
-          let moves = length-moves-in row s (omega arith) in
-          let width = full s (omega arith) in
-          ext-getD no-move (getD (machine-in row) s []) (getD m s []) (omega arith) (λ x l. written-move s x (omega arith) (omega arith)))
+        let moves = length-moves-in row s (omega arith) in
+        let width = full s (omega arith) in
+        ext-getD no-move (getD (machine-in row) s []) (getD m s []) (omega arith) (λ x l. written-move s x (omega arith) (omega arith)))

@@ -49,9 +49,9 @@ pub once-from-append : (seen us vs : List Word) → once-from seen (us ++ vs) �
 unfolding once-from listed
 once-from-append seen [] vs = refl
 once-from-append seen (u ∷ us) vs = elim (cases-bool (listed u seen)) [
-      | inl y ↦ rw (y, once-from-append seen us vs, once-from-alike (us ++ seen) (u ∷ (us ++ seen)) vs (old y))
-      | inr n ↦ rw (n, once-from-append (u ∷ seen) us vs, once-from-alike (us ++ u ∷ seen) (u ∷ (us ++ seen)) vs new)
-    ]
+  | inl y ↦ rw (y, once-from-append seen us vs, once-from-alike (us ++ seen) (u ∷ (us ++ seen)) vs (old y))
+  | inr n ↦ rw (n, once-from-append (u ∷ seen) us vs, once-from-alike (us ++ u ∷ seen) (u ∷ (us ++ seen)) vs new)
+]
   where
     old : listed u seen ≡ true → Alike (us ++ seen) (u ∷ (us ++ seen))
     old y c = same-tests (listed c (us ++ seen)) (same c u || listed c (us ++ seen)) (or-right (same c u) (listed c (us ++ seen)))
@@ -74,9 +74,9 @@ pub once-from-different : (seen ws : List Word) → Different ws → once-from s
 unfolding once-from listed
 once-from-different seen [] d = refl
 once-from-different seen (w ∷ ws) d = elim (cases-bool (listed w seen)) [
-      | inl y ↦ rw (y, once-from-different seen ws (d .1))
-      | inr n ↦ rw (n, once-from-different (w ∷ seen) ws (d .1), kept-by-same (λ c. not (same c w || listed c seen)) (λ c. not (listed c seen)) ws (in-all (λ c. not (same c w || listed c seen) ≡ not (listed c seen)) ws other))
-    ]
+  | inl y ↦ rw (y, once-from-different seen ws (d .1))
+  | inr n ↦ rw (n, once-from-different (w ∷ seen) ws (d .1), kept-by-same (λ c. not (same c w || listed c seen)) (λ c. not (listed c seen)) ws (in-all (λ c. not (same c w || listed c seen) ≡ not (listed c seen)) ws other))
+]
   where
     other : (c : Word) → In c ws → not (same c w || listed c seen) ≡ not (listed c seen)
     other c m = elim (cases-bool (same c w)) [
@@ -89,9 +89,9 @@ pub different-once-from : (seen ws : List Word) → Different (once-from seen ws
 unfolding once-from listed
 different-once-from seen [] = (tt, tt)
 different-once-from seen (w ∷ ws) = elim (cases-bool (listed w seen)) [
-      | inl y ↦ rw y (different-once-from seen ws)
-      | inr n ↦ rw n (fresh n (different-once-from (w ∷ seen) ws))
-    ]
+  | inl y ↦ rw y (different-once-from seen ws)
+  | inr n ↦ rw n (fresh n (different-once-from (w ∷ seen) ws))
+]
   where
     fresh : listed w seen ≡ false → Different (once-from (w ∷ seen) ws) × All (λ c. (same c w || listed c seen) ≡ false) (once-from (w ∷ seen) ws) →
         Different (w ∷ once-from (w ∷ seen) ws) × All (λ c. listed c seen ≡ false) (w ∷ once-from (w ∷ seen) ws)
@@ -110,15 +110,17 @@ different-once ws = different-once-from [] ws .0
 
 pub different-append : (us vs : List Word) → Different us → Different vs → ((w : Word) → In w us → In w vs → ⊥) → Different (us ++ vs)
 different-append [] vs a b h = b
-different-append (u ∷ us) vs a b h =
-    (not-in (us ++ vs) (λ m. elim (List·Memᴰ·append-cases us m) [ inl i ↦ both-ways (listed u us) (a .0) (in-listed us i) | inr i ↦ h u (List·Memᴰ·head refl) i ]),
-    different-append us vs (a .1) b (λ w i j. h w (List·Memᴰ·tail i) j))
+different-append (u ∷ us) vs a b h = (
+  not-in (us ++ vs) (λ m. elim (List·Memᴰ·append-cases us m) [ inl i ↦ both-ways (listed u us) (a .0) (in-listed us i) | inr i ↦ h u (List·Memᴰ·head refl) i ]),
+  different-append us vs (a .1) b (λ w i j. h w (List·Memᴰ·tail i) j),
+)
 
 pub different-behind : (v : Word) (ws : List Word) → Different ws → Different (each-behind v ws)
 different-behind v [] d = tt
-different-behind v (w ∷ ws) d =
-    (not-in (each-behind v ws) (λ m. let r = Memᴰ·of-map (λ z. v ++ z) ws m in both-ways (listed w ws) (d .0) (in-listed ws (Memᴰ·cast (sym (append-cancel-left v (r .0) w (r .2))) (r .1)))),
-    different-behind v ws (d .1))
+different-behind v (w ∷ ws) d = (
+  not-in (each-behind v ws) (λ m. let r = Memᴰ·of-map (λ z. v ++ z) ws m in both-ways (listed w ws) (d .0) (in-listed ws (Memᴰ·cast (sym (append-cancel-left v (r .0) w (r .2))) (r .1)))),
+  different-behind v ws (d .1),
+)
 
 -- words of one length, each followed by each of some words
 pub different-products : (n : ℕ) (us ws : List Word) → All (λ u. length u ≡ n) us → Different us → Different ws → Different (products us ws)

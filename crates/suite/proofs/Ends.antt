@@ -40,9 +40,9 @@ module _ (a : Against) (front : Candidate) (x : By-value) where
   came-up test at l r fits inside places long whole found =
       found ∙ ap (λ c. any (ends-marked at c) ends || (l && some-parts (suc (a .extra)) ends earlier c)) (take-from-zero (test .len) (test .keys) ∙ whole)
       ∙ repeats-found (a .extra) (a .between) (a .own) ends earlier f (word-of x) at l
-        (omega (arith, length-candidate front))
-        (let n = fits .front in let s = x .short in omega (arith, length-append f (word-of x), length-candidate front, length-word x))
-        (λ m h. places m h ∙ ap (λ z. marked (a .extra) earlier (a .own) (a .between) z m) begun) (long ∙ ap (λ z. any (longer z) earlier) begun)
+      (omega (arith, length-candidate front))
+      (let n = fits .front in let s = x .short in omega (arith, length-append f (word-of x), length-candidate front, length-word x))
+      (λ m h. places m h ∙ ap (λ z. marked (a .extra) earlier (a .own) (a .between) z m) begun) (long ∙ ap (λ z. any (longer z) earlier) begun)
     where
       begun : take (front .len - 0) (front .keys) ≡ f
       begun = take-from-zero (front .len) (front .keys)

@@ -50,7 +50,7 @@ module _ (k e : ℕ) (ws : List Word) (ws-keys : All (Keys k) ws) (different : D
       last =
           once-from-different (before ++ seen) block (different-behind v (products (of-length k n) ws) (different-products n (of-length k n) ws (in-all (λ u. length u ≡ n) (of-length k n) (λ u m. of-of-length k n m .1)) (different-of-length k n) different))
           ∙ kept-by-same (λ c. not (listed c (before ++ seen))) (λ c. not (repeats e ws earlier v n c)) block
-            (all-weaker (Keys k) (λ c. not (listed c (before ++ seen)) ≡ not (repeats e ws earlier v n c)) same-tests block (behind-keys k v (products (of-length k n) ws) h (products-keys k (of-length k n) ws (of-length-keys k n) ws-keys)))
+          (all-weaker (Keys k) (λ c. not (listed c (before ++ seen)) ≡ not (repeats e ws earlier v n c)) same-tests block (behind-keys k v (products (of-length k n) ws) h (products-keys k (of-length k n) ws (of-length-keys k n) ws-keys)))
 
   each-front : (seen earlier vs : List Word) → All (Keys k) vs → Seen seen earlier → once-from seen (products (products vs (up-to k e)) ws) ≡ kept-from k e ws earlier vs
   unfolding kept-from once-from

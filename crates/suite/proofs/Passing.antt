@@ -54,15 +54,23 @@ module _ (k e : ℕ) (m i : Machine) (qs ws : List Word) (pm : Proper k m) (pi :
 
   shorter : (q u : Word) → In q qs → Keys k u → length u ≡ suc e → Near (after i 0 (q ++ u))
   shorter q u a h l = elim (pigeonhole-two (length m) e (λ s. after i 0 (choice s .0)) (λ j. after i 0 (q ++ take (suc j) u)) (λ s _. low (choice s .0)) (λ j _. low (q ++ take (suc j) u)) ways-apart) [
-    | inl c ↦ let b = choice (c .0) .1 (c .2) in let j = c .1 in let most = c .3 in
-        (choice (c .0) .0, drop (suc (c .1)) u, b .0, all-drop (λ x. x < k) (suc (c .1)) u h, omega (arith, length-drop (suc (c .1)) u),
-        split (suc (c .1)) ∙ ap (λ s. after i s (drop (suc (c .1)) u)) (sym (c .4)) ∙ sym (after-append i 0 (choice (c .0) .0) (drop (suc (c .1)) u)))
-    | inr c ↦ let less = c .2 in let most = c .3 in
-        (q, take (suc (c .0)) u ++ drop (suc (c .1)) u, a,
-        all-append (λ x. x < k) (take (suc (c .0)) u) (drop (suc (c .1)) u) (all-take (λ x. x < k) (suc (c .0)) u h) (all-drop (λ x. x < k) (suc (c .1)) u h),
-        omega (arith, length-append (take (suc (c .0)) u) (drop (suc (c .1)) u), length-take (suc (c .0)) u, length-drop (suc (c .1)) u),
-        split (suc (c .1)) ∙ ap (λ s. after i s (drop (suc (c .1)) u)) (sym (c .4)) ∙ sym (after-append i 0 (q ++ take (suc (c .0)) u) (drop (suc (c .1)) u))
-        ∙ ap (after i 0) (append-assoc q (take (suc (c .0)) u) (drop (suc (c .1)) u)))
+    | inl c ↦ let b = choice (c .0) .1 (c .2) in let j = c .1 in let most = c .3 in (
+      choice (c .0) .0,
+      drop (suc (c .1)) u,
+      b .0,
+      all-drop (λ x. x < k) (suc (c .1)) u h,
+      omega (arith, length-drop (suc (c .1)) u),
+      split (suc (c .1)) ∙ ap (λ s. after i s (drop (suc (c .1)) u)) (sym (c .4)) ∙ sym (after-append i 0 (choice (c .0) .0) (drop (suc (c .1)) u)),
+    )
+    | inr c ↦ let less = c .2 in let most = c .3 in (
+      q,
+      take (suc (c .0)) u ++ drop (suc (c .1)) u,
+      a,
+      all-append (λ x. x < k) (take (suc (c .0)) u) (drop (suc (c .1)) u) (all-take (λ x. x < k) (suc (c .0)) u h) (all-drop (λ x. x < k) (suc (c .1)) u h),
+      omega (arith, length-append (take (suc (c .0)) u) (drop (suc (c .1)) u), length-take (suc (c .0)) u, length-drop (suc (c .1)) u),
+      split (suc (c .1)) ∙ ap (λ s. after i s (drop (suc (c .1)) u)) (sym (c .4)) ∙ sym (after-append i 0 (q ++ take (suc (c .0)) u) (drop (suc (c .1)) u))
+          ∙ ap (after i 0) (append-assoc q (take (suc (c .0)) u) (drop (suc (c .1)) u)),
+    )
   ]
     where
       low : (w : Word) → after i 0 w < length m + e

@@ -101,7 +101,14 @@ fn each_between<S: Sink>(against: Against, front: Candidate, keys: u64, left: us
 }
 
 // Hands on every word of at most `extra` keys behind the word `own`, and every end behind that.
-fn each_behind<'a, S: Sink>(earlier: &'a [Word], own: &Word, ends: &'a [Word], keys: u64, extra: usize, sink: &mut S)
+fn each_behind<'a, S: Sink>(
+    earlier: &'a [Word],
+    own: &Word,
+    ends: &'a [Word],
+    keys: u64,
+    extra: usize,
+    sink: &mut S,
+)
     requires { ⌜ extra ≤ 3 ⌝ }
     ensures { λ _. ⌜ Fed step (kept-behind keys extra (words-of (now (ends .entry))) (words-of (now (earlier .entry))) (word-of (now (own .entry))) (suc extra)) (now (sink .entry)) (now (sink .exit)) ⌝ }
 {
@@ -119,7 +126,13 @@ fn each_behind<'a, S: Sink>(earlier: &'a [Word], own: &Word, ends: &'a [Word], k
 }
 
 // Hands on every test made of the words in front, at most `extra` keys, and the ends: each once, in order.
-pub fn each_test<'a, S: Sink>(fronts: &'a [Word], ends: &'a [Word], keys: u64, extra: usize, sink: &mut S)
+pub fn each_test<'a, S: Sink>(
+    fronts: &'a [Word],
+    ends: &'a [Word],
+    keys: u64,
+    extra: usize,
+    sink: &mut S,
+)
     requires { ⌜ extra ≤ 3 ⌝ }
     ensures { λ _. ⌜ Fed step (kept keys extra (words-of (now (fronts .entry))) (words-of (now (ends .entry)))) (now (sink .entry)) (now (sink .exit)) ⌝ }
 {

@@ -15,13 +15,22 @@ use machine::Refusal;
 use machine::word_at;
 
 // Writes the tests made of words that reach and words that tell apart, or says that there is no room for them and writes nothing.
-pub fn write_suite<'a>(access: &'a [Word], ends: &'a [Word], keys: u64, extra: usize, out: &mut [u64]) -> Result<u64, Refusal>
+pub fn write_suite<'a>(
+    access: &'a [Word],
+    ends: &'a [Word],
+    keys: u64,
+    extra: usize,
+    out: &mut [u64],
+) -> Result<u64, Refusal>
     requires { ⌜ Makes-tests keys extra (words-of (now access)) (words-of (now ends)) ⌝ }
     ensures { λ r. ⌜ Tests-written (suite keys extra (words-of (now (access .entry))) (words-of (now (ends .entry)))) (now (out .entry)) r (now (out .exit)) ⌝ }
 {
     let fronts = with_key(access, keys);
     let begins = &fronts.words[0..fronts.count];
-    let mut tally = Tally { tests: 0, numbers: 1 };
+    let mut tally = Tally {
+        tests: 0,
+        numbers: 1,
+    };
     each_test(begins, ends, keys, extra, &mut tally);
     if tally.numbers > out.len() as u64 {
         return Err(Refusal::NoRoomForTests(tally.numbers.min(0x1_0000_0000)));

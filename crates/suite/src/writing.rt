@@ -39,7 +39,13 @@ pub fn each_test_for<S: Sink>(m: Machine, extra: usize, sink: &mut S)
     let cover = Cover::of(m);
     let keys = m.keys() as u64;
     let fronts = with_key(&cover.access[0..cover.states], keys);
-    each_test(&fronts.words[0..fronts.count], &cover.separating[0..cover.count], keys, extra, sink);
+    each_test(
+        &fronts.words[0..fronts.count],
+        &cover.separating[0..cover.count],
+        keys,
+        extra,
+        sink,
+    );
 }
 
 // Writes the tests for the machine in a row and so many extra states into a lent row, or refuses and writes nothing.

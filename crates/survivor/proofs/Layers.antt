@@ -41,16 +41,16 @@ module _ (k : ℕ) (m : Machine) (longest : ℕ) (proper : Proper k m) (few : Wr
   -- what a key shows, from state q of the survivor; own is how many states the machine has
   module _ (q x own shown : ℕ) where
     pub right-shown :
-      q < length (survivor-of k m longest) → x < k → own ≡ length m → shown ≡ move m (q % own) x .output → (eqb (q / own) longest && eqb x 0) ≡ false →
-      shown ≡ move (survivor-of k m longest) q x .output
+        q < length (survivor-of k m longest) → x < k → own ≡ length m → shown ≡ move m (q % own) x .output → (eqb (q / own) longest && eqb x 0) ≡ false →
+        shown ≡ move (survivor-of k m longest) q x .output
     right-shown h l e is not-yet =
         let n = length-survivor k m longest proper in
         let here = ap (λ (a : Move). a .output) (survivor-at k m longest proper q x (omega arith) l) in
         is ∙ ap (λ z. move m (q % z) x .output) e ∙ sym (here ∙ rw (rw e at not-yet))
 
   pub wrong-shown :
-    (q x own shown another : ℕ) → q < length (survivor-of k m longest) → x < k → own ≡ length m → shown ≡ move m (q % own) x .output →
-    q / own ≡ longest → x ≡ 0 → another ≡ wrong shown → another ≡ move (survivor-of k m longest) q x .output
+      (q x own shown another : ℕ) → q < length (survivor-of k m longest) → x < k → own ≡ length m → shown ≡ move m (q % own) x .output →
+      q / own ≡ longest → x ≡ 0 → another ≡ wrong shown → another ≡ move (survivor-of k m longest) q x .output
   wrong-shown q x own shown another h l e is full zero-key other =
       let n = length-survivor k m longest proper in
       let here = ap (λ (a : Move). a .output) (survivor-at k m longest proper q x (omega arith) l) in
@@ -85,8 +85,7 @@ module _ (row : List ℕ) (longest : ℕ) (before : List ℕ) where
       unfolding survivor-refusal
       answered (Ok n) after w =
           let e = made-room in
-          let fits = w .0 in
-          (
+          let fits = w .0 in (
             rw (ok, le-ltb 4096 (states-made row longest) few, le-ltb (length before) (room-made row longest) (omega arith)),
             w .1,
             w .2 ∙ ap (λ z. row-of (keys-in row) (made row longest) ++ drop z before) e,
@@ -94,8 +93,7 @@ module _ (row : List ℕ) (longest : ℕ) (before : List ℕ) where
           )
       answered (Err f) after w =
           let e = made-room in
-          let short = w .0 in
-          (
+          let short = w .0 in (
             rw (ok, le-ltb 4096 (states-made row longest) few, lt-ltb (length before) (room-made row longest) (omega arith)) (ap {B = Option Reason} Some (sym (w .1 ∙ ap (reason 8) e))),
             w .2,
           )

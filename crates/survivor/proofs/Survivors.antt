@@ -17,14 +17,15 @@ use Rattle.std.proofs.shelf.Tests.{cases-lt, cases-eq, eq-eqb, ne-eqb}
 use Rattle.std.proofs.shelf.Ways.{tells}
 use Rattle.machine.specs.Machine.{Machine, Move, Word, Keys, Proper, Equivalent, move, no-move, outputs}
 use Rattle.machine.proofs.Runs.{move-below}
+use Rattle.survivor.specs.Longest.{longest-of}
 use Rattle.survivor.specs.Promises.{Survives, No-tests-suffice}
 use Rattle.survivor.specs.Survivor.{wrong, survivor-move, survivor-states, survivor-of}
 
 pub wrong-differs : (y : ℕ) → y ≡ wrong y → ⊥
 wrong-differs y e = elim (cases-eq y 4294967295) [
-    inl h ↦ let z : wrong y ≡ 0 = rw (eq-eqb _ _ h) in omega arith
+  | inl h ↦ let z : wrong y ≡ 0 = rw (eq-eqb _ _ h) in omega arith
   | inr d ↦ let z : wrong y ≡ y + 1 = rw (ne-eqb _ _ d) in omega arith
-  ]
+]
 
 module _ (k : ℕ) (m : Machine) (longest : ℕ) (proper : Proper k m) where
   made : Machine
@@ -66,12 +67,11 @@ module _ (k : ℕ) (m : Machine) (longest : ℕ) (proper : Proper k m) where
 
   -- with fewer keys pressed than the bound it does what the machine does, one layer on
   lower-move : (c s x : ℕ) → c < longest → s < length m → x < k →
-    (move made (c * length m + s) x .to ≡ (c + 1) * length m + move m s x .to) × (move made (c * length m + s) x .output ≡ move m s x .output)
+      (move made (c * length m + s) x .to ≡ (c + 1) * length m + move m s x .to) × (move made (c * length m + s) x .output ≡ move m s x .output)
   unfolding made
   lower-move c s x h l in-x =
       let here = layer-move c s (omega arith) l x in-x in
-      let low : min (c + 1) longest ≡ c + 1 = omega arith in
-      (
+      let low : min (c + 1) longest ≡ c + 1 = omega arith in (
         ap (λ (a : Move). a .to) here ∙ ap (λ d. d * length m + move m s x .to) low,
         ap (λ (a : Move). a .output) here ∙ rw (ne-eqb c longest (λ e. omega arith)),
       )
@@ -81,18 +81,18 @@ module _ (k : ℕ) (m : Machine) (longest : ℕ) (proper : Proper k m) where
   same-from [] c s l h = refl
   same-from (x ∷ w) c s l h =
       elim (cases-lt x k) [
-        inl in-x ↦
-          let step = lower-move c s x (omega arith) l in-x in
-          let rest = same-from w (c + 1) (move m s x .to) (move-below proper s x l) (omega arith) in
-          let to = step .0 in
-          let output = step .1 in
-          cc
-      | inr past ↦
-          let a = no-key m s x (proper .full s l) past in
-          let b = no-key made (c * length m + s) x (survivor-full (c * length m + s) (let e = length-survivor in let i = layer-inside c s (omega arith) l in omega arith)) past in
-          let start : 0 * length m + 0 ≡ 0 = omega (arith, zero-mul (length m)) in
-          let rest = same-from w 0 0 (proper .some) (omega arith) in
-          cc
+        | inl in-x ↦
+            let step = lower-move c s x (omega arith) l in-x in
+            let rest = same-from w (c + 1) (move m s x .to) (move-below proper s x l) (omega arith) in
+            let to = step .0 in
+            let output = step .1 in
+            cc
+        | inr past ↦
+            let a = no-key m s x (proper .full s l) past in
+            let b = no-key made (c * length m + s) x (survivor-full (c * length m + s) (let e = length-survivor in let i = layer-inside c s (omega arith) l in omega arith)) past in
+            let start : 0 * length m + 0 ≡ 0 = omega (arith, zero-mul (length m)) in
+            let rest = same-from w 0 0 (proper .some) (omega arith) in
+            cc
       ]
 
   -- key 0 pressed once more than the bound
@@ -134,11 +134,7 @@ module _ (k : ℕ) (m : Machine) (longest : ℕ) (proper : Proper k m) where
         differs = (replicate (suc longest) 0, zeros (suc longest) some, λ e. differs-from longest 0 0 some (proper .some) (omega arith) (cc));
       }
 
--- how long the longest of some words is
-longest-of : List Word → ℕ
-longest-of [] = 0
-longest-of (w ∷ ws) = max (length w) (longest-of ws)
-
+-- what holds of every word up to a length holds of words that are no longer
 same-on-all : (m i : Machine) (ws : List Word) (longest : ℕ) → longest-of ws ≤ longest → ((w : Word) → length w ≤ longest → outputs m 0 w ≡ outputs i 0 w) → All (λ w. outputs m 0 w ≡ outputs i 0 w) ws
 unfolding longest-of
 same-on-all m i [] longest h same = tt
@@ -146,8 +142,7 @@ same-on-all m i (w ∷ ws) longest h same = (same w (omega arith), same-on-all m
 
 pub no-tests-suffice : No-tests-suffice
 no-tests-suffice k m tests proper some =
-    let made = survives k m (longest-of tests) proper some in
-    (
+    let made = survives k m (longest-of tests) proper some in (
       survivor-of k m (longest-of tests),
       made .proper,
       same-on-all m _ tests (longest-of tests) (omega arith) (made .same),

@@ -1,3 +1,4 @@
 pub mod Answer
+pub mod Longest
 pub mod Promises
 pub mod Survivor

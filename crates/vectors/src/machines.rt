@@ -30,7 +30,10 @@ pub fn minimize_case(rt: &LibcRuntime, text: &str) -> Result<(), AnyError> {
     match minimal::minimize(&row, &mut out) {
         Ok(states) => {
             let keys = row.get(1).copied().unwrap_or(0);
-            let needed = states.saturating_mul(keys).saturating_mul(2).saturating_add(2);
+            let needed = states
+                .saturating_mul(keys)
+                .saturating_mul(2)
+                .saturating_add(2);
             out.truncate(needed as usize);
             let line = joined(rt.alloc(), &out)?;
             println!(rt, "{line}")?;

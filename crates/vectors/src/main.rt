@@ -7,13 +7,13 @@ mod text;
 use machines::minimize_case;
 use machines::read_case;
 use machines::words_case;
+use std::error::AnyError;
+use std::io::Read;
 use survivors::survivor_case;
 use tests_cases::large_case;
 use tests_cases::refusal_case;
 use tests_cases::tests_case;
 use tests_cases::verdict_case;
-use std::error::AnyError;
-use std::io::Read;
 
 #[derive(Clone, Copy)]
 enum Kind {

@@ -77,7 +77,14 @@ pub fn verdict_case(rt: &LibcRuntime, text: &str) -> Result<(), AnyError> {
     let shown = numbers(rt.alloc(), parts.next().unwrap_or(""))?;
     match verdict::judge(&row, extra, &shown) {
         Ok(Verdict::Passed) => rt.println("passed")?,
-        Ok(Verdict::Failed { test, key, shown, expected }) => {
+        Ok(
+            Verdict::Failed {
+                test,
+                key,
+                shown,
+                expected,
+            },
+        ) => {
             println!(rt, "failed {test} at {key}: {shown} for {expected}")?;
         }
         Err(refusal) => print_refusal(rt, refusal)?,

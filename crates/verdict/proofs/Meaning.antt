@@ -40,8 +40,8 @@ module _ (m : Machine) (ts : List Word) (shown : List ℕ) where
   unfolding verdict-of
   passed-none e j h =
       elim (first-cases (λ i. isSome (difference-on m ts shown i)) (length ts)) [
-        inl a ↦ is-none (difference-on m ts shown j) (a .1 j h)
-      | inr b ↦ absurd (failed-not-passed ts shown (b .0) (difference-on m ts shown (b .0)) (b .2 .passes) (sym (ap (first-failed m ts shown) (b .1)) ∙ e))
+        | inl a ↦ is-none (difference-on m ts shown j) (a .1 j h)
+        | inr b ↦ absurd (failed-not-passed ts shown (b .0) (difference-on m ts shown (b .0)) (b .2 .passes) (sym (ap (first-failed m ts shown) (b .1)) ∙ e))
       ]
 
   pub none-passed : ((j : ℕ) → j < length ts → difference-on m ts shown j ≡ None) → verdict-of m ts shown ≡ Passed
@@ -53,17 +53,17 @@ module _ (m i : Machine) (ts : List Word) where
   pub passed-passes : verdict-of m ts (shown-by i ts) ≡ Passed → Passes m i ts
   passed-passes e =
       all-from-getD _ ts [] (λ j h.
-        let part = shown-on-each i ts j h in
-        let long = ap length part ∙ length-outputs i 0 (getD ts j []) in
-        sym (sym part ∙ same-difference m (getD ts j []) (shown-on ts (shown-by i ts) j) long (passed-none m ts (shown-by i ts) e j h)))
+      let part = shown-on-each i ts j h in
+      let long = ap length part ∙ length-outputs i 0 (getD ts j []) in
+      sym (sym part ∙ same-difference m (getD ts j []) (shown-on ts (shown-by i ts) j) long (passed-none m ts (shown-by i ts) e j h)))
 
   pub passes-passed : Passes m i ts → verdict-of m ts (shown-by i ts) ≡ Passed
   passes-passed all =
       none-passed m ts (shown-by i ts) (λ j h.
-        difference-same m (getD ts j []) (shown-on ts (shown-by i ts) j) (shown-on-each i ts j h ∙ sym (all-getD (λ w. outputs m 0 w ≡ outputs i 0 w) ts j [] h all)))
+      difference-same m (getD ts j []) (shown-on ts (shown-by i ts) j) (shown-on-each i ts j h ∙ sym (all-getD (λ w. outputs m 0 w ≡ outputs i 0 w) ts j [] h all)))
 
 pub verdict-means :
-  (k e : ℕ) (m : Machine) (shown : List ℕ) → Passing-is-equivalent k e m → Equivalent-passes k e m → Means k e m shown (verdict-of m (tests k e m) shown)
+    (k e : ℕ) (m : Machine) (shown : List ℕ) → Passing-is-equivalent k e m → Equivalent-passes k e m → Means k e m shown (verdict-of m (tests k e m) shown)
 verdict-means k e m shown main back = record {
   passed = λ i proper few is ok. main i proper few (passed-passes m i (tests k e m) (ap (verdict-of m (tests k e m)) (sym is) ∙ ok));
   equivalent = λ i is same. ap (verdict-of m (tests k e m)) is ∙ passes-passed m i (tests k e m) (back i same);
@@ -73,8 +73,7 @@ pub beginnings-pass : Beginnings-pass
 beginnings-pass m i [] vs begin passes = tt
 beginnings-pass m i (w ∷ ws) vs begin passes =
     let v = begin .0 in
-    let whole = all-has (λ u. outputs m 0 u ≡ outputs i 0 u) vs (v .0) passes (v .1) in
-    (
+    let whole = all-has (λ u. outputs m 0 u ≡ outputs i 0 u) vs (v .0) passes (v .1) in (
       outputs-front m i 0 0 w (v .2 .0) (sym (ap (outputs m 0) (v .2 .1)) ∙ whole ∙ ap (outputs i 0) (v .2 .1)),
       beginnings-pass m i ws vs (begin .1) passes,
     )

@@ -59,8 +59,8 @@ module _ (m : Machine) (ts : List Word) (shown : List ℕ) where
   unfolding first
   next-verdict j =
       elim (first-cases fails j) [
-        inl a ↦ rw (a .0) (one (difference-on m ts shown j) refl)
-      | inr b ↦ rw (b .1) (stays j (getD ts j []) (shown-on ts shown j) (b .0) (difference-on m ts shown (b .0)) (b .2 .passes))
+        | inl a ↦ rw (a .0) (one (difference-on m ts shown j) refl)
+        | inr b ↦ rw (b .1) (stays j (getD ts j []) (shown-on ts shown j) (b .0) (difference-on m ts shown (b .0)) (b .2 .passes))
       ]
     where
       one : (o : Option Difference) → difference-on m ts shown j ≡ o → on-one j (shown-on ts shown j) (difference-on m ts shown j) ≡ first-failed m ts shown (cond (fails j) (Some j) None)
@@ -91,7 +91,7 @@ module _ (m : Machine) (ts : List Word) (shown : List ℕ) where
       }
     where
       step : (o : Option ℕ) → s .cut ≡ o →
-        or-else (s .cut) (cond (ltb (length (s .shown .now)) (s .at + length w)) (Some (s .tests)) None) ≡ or-else (first cut j) (cond (cut j) (Some j) None)
+          or-else (s .cut) (cond (ltb (length (s .shown .now)) (s .at + length w)) (Some (s .tests)) None) ≡ or-else (first cut j) (cond (cut j) (Some j) None)
       step None e =
           let more = begins-more ts j h in
           let same = ap length is in

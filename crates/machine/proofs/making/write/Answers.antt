@@ -30,11 +30,10 @@ pub loop-key-again : need.loop-key-again
 loop-key-again g c =
     let made = g .D·Derive .made (c .args .way .now) (keys-of (c .args .m)) (model (c .args .m)) in
     let state : c .loop-state .state < length made = let h = c .loop-state-test .taken in let e = c .states-states .ensures in omega arith in
-    let key : c .loop-key .key < keys-of (c .args .m) = let h = c .loop-key-test .taken in let e = c .keys-keys .ensures in omega arith in
-    (
+    let key : c .loop-key .key < keys-of (c .args .m) = let h = c .loop-key-test .taken in let e = c .keys-keys .ensures in omega arith in (
       begun-move _ _ _ _ _ _ _ _ _ state (c .pre .writable .full _ state) key
-        (move-room _ _ _ _ _ _ _ _ (c .args .out .now) (c .states-states .ensures) (c .keys-keys .ensures) (c .loop-state-test .taken) (c .loop-key-test .taken) (c .loop-key .inv .0 .number) (c .pre .fits) (c .loop-state .kept .out))
-        (c .loop-key .inv .0) (c .target .ensures) (c .output .ensures),
+          (move-room _ _ _ _ _ _ _ _ (c .args .out .now) (c .states-states .ensures) (c .keys-keys .ensures) (c .loop-state-test .taken) (c .loop-key-test .taken) (c .loop-key .inv .0 .number) (c .pre .fits) (c .loop-state .kept .out))
+          (c .loop-key .inv .0) (c .target .ensures) (c .output .ensures),
       c .loop-state-test .taken,
     )
 

@@ -25,15 +25,19 @@ loop-i-again g c =
     let same : candidate-of (c .end-with .last .test) ≡ take (front .len) (c .loop-i .test .keys) ++ word-of x = c .end-with .ensures .whole in
     let whole : candidate-of (c .end-with .last .test) ≡ candidate-of front ++ word-of x = same ∙ ap (λ z. z ++ word-of x) (c .loop-i .inv .1) in
     let found = came-up a front x (c .end-with .last .test) (c .marks-behind-marks .result .at) (c .some-longer-longer .result) (c .repeated .result) (c .pre .0) (c .pre .1)
-        (c .marks-behind-marks .ensures) (c .some-longer-longer .ensures) whole (c .repeated .ensures) in
+    (c .marks-behind-marks .ensures) (c .some-longer-longer .ensures) whole (c .repeated .ensures) in
     let begun = c .end-with .ensures .front ∙ c .loop-i .inv .1 in
     elim (c .if-not-repeated .came) [
-      | then-not-repeated w ↦ rw (w .sink-is)
-          (handed-on a front x (g .S·Sink .step) (c .loop-i .i) (c .loop-i-test .taken) is (c .args .sink .now) (c .loop-i .sink) (c .loop-i .inv .0)
-            _ (take (c .end-with .last .test .len - 0) (c .end-with .last .test .keys)) (sym (w .if-not-repeated .taken) ∙ found) (take-from-zero (c .end-with .last .test .len) (c .end-with .last .test .keys) ∙ whole) (w .put .ensures), begun)
-      | else-not-repeated w ↦ rw (w .sink-is)
-          (skipped a front x (g .S·Sink .step) (c .loop-i .i) (c .loop-i-test .taken) is (c .args .sink .now) (c .loop-i .sink) (c .loop-i .inv .0)
-            (sym (w .if-not-repeated .left) ∙ found), begun)
+      | then-not-repeated w ↦ rw (w .sink-is) (
+        handed-on a front x (g .S·Sink .step) (c .loop-i .i) (c .loop-i-test .taken) is (c .args .sink .now) (c .loop-i .sink) (c .loop-i .inv .0)
+            _ (take (c .end-with .last .test .len - 0) (c .end-with .last .test .keys)) (sym (w .if-not-repeated .taken) ∙ found) (take-from-zero (c .end-with .last .test .len) (c .end-with .last .test .keys) ∙ whole) (w .put .ensures),
+        begun,
+      )
+      | else-not-repeated w ↦ rw (w .sink-is) (
+        skipped a front x (g .S·Sink .step) (c .loop-i .i) (c .loop-i-test .taken) is (c .args .sink .now) (c .loop-i .sink) (c .loop-i .inv .0)
+            (sym (w .if-not-repeated .left) ∙ found),
+        begun,
+      )
     ]
 
 pub returns : need.returns

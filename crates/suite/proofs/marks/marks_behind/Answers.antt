@@ -24,9 +24,10 @@ loop-i-again c =
     let long = c .loop-i .inv .0 in
     elim (c .if-begins .came) [
       | then-begins w ↦
-          rw (w .at-is)
-          (w .mark-then-begins .kept .at ∙ long,
-          λ m h. marks-more (a .extra) f ws i (a .own) (a .between) x l is m _ _ (c .loop-i .inv .1 m h) (sym (w .if-begins .ensures tt)) (w .mark-then-begins .ensures m (omega arith)))
+          rw (w .at-is) (
+            w .mark-then-begins .kept .at ∙ long,
+            λ m h. marks-more (a .extra) f ws i (a .own) (a .between) x l is m _ _ (c .loop-i .inv .1 m h) (sym (w .if-begins .ensures tt)) (w .mark-then-begins .ensures m (omega arith)),
+          )
       | else-begins w ↦ rw (w .at-is) (long, λ m h. marks-same (a .extra) f ws i (a .own) (a .between) x l is m _ false (c .loop-i .inv .1 m h) (sym (w .if-begins .ensures tt)))
     ]
 

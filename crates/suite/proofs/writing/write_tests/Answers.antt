@@ -23,5 +23,5 @@ pub returns : need.returns
 returns c =
     let told = c .in-Continue-shape .ensures tt .0 in
     let same = cover-suite (c .over-m .result) (c .args .extra) (c .keys .result) (c .of-cover .result) (c .keys .ensures) (c .of-cover .ensures .access) (c .of-cover .ensures .separating)
-        ∙ ap (λ k. tests k (c .args .extra) (model (c .over-m .result))) (c .over-m .ensures .1) ∙ ap (tests _ (c .args .extra)) (c .over-m .ensures .0) in
+    ∙ ap (λ k. tests k (c .args .extra) (model (c .over-m .result))) (c .over-m .ensures .1) ∙ ap (tests _ (c .args .extra)) (c .over-m .ensures .0) in
     answered (c .args .row .now) (c .args .extra) (c .args .out .now) told (c .write-suite .result) (c .write-suite .last .out) (simp same at (c .write-suite .ensures))

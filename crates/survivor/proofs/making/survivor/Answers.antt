@@ -36,10 +36,9 @@ returns-in-Break-longest c =
     let row = c .args .row .now in
     let longest = c .args .longest in
     let same = own-states row _ _ longest (c .states .ensures) (c .over-m .ensures .0) in
-    rw (p .1, p .2)
-    (
+    rw (p .1, p .2) (
       too-many row longest (c .args .out .now) (c .in-Continue-shape .ensures tt .accepted) (let h = told .0 in omega arith)
-        ∙ ap {B = Option Reason} Some (sym (told .1 ∙ ap (λ z. reason 7 (min z (2 ^ 32))) same)),
+          ∙ ap {B = Option Reason} Some (sym (told .1 ∙ ap (λ z. reason 7 (min z (2 ^ 32))) same)),
       refl,
     )
 

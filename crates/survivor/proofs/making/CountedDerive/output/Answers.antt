@@ -27,9 +27,9 @@ pub returns-else-state-own : need.returns-else-state-own
 returns-else-state-own c =
     let longest = c .args .self .now .longest in
     let not-yet : (eqb (c .args .state / c .states-own .result) longest && eqb (c .args .key) 0) ≡ false =
-        elim (c .else-state-own .came) [
-          else-state-own·by·then-state-own·else-key-eq0 w ↦ and-right _ _ (ne-eqb _ _ (w .if-key-eq0 .left))
-        | else-state-own·by·else-state-own w ↦ and-left _ _ (ne-eqb _ _ (w .if-state-own .left))
-        ] in
+    elim (c .else-state-own .came) [
+      | else-state-own·by·then-state-own·else-key-eq0 w ↦ and-right _ _ (ne-eqb _ _ (w .if-key-eq0 .left))
+      | else-state-own·by·else-state-own w ↦ and-left _ _ (ne-eqb _ _ (w .if-state-own .left))
+    ] in
     right-shown (keys-of (c .args .m)) (model (c .args .m)) longest (view-proper (c .args .m)) (c .pre .writable) _ _ _ _
     (c .pre .state-within) (c .pre .key-within) (c .states-own .ensures) (c .output-shown .ensures .value) not-yet
