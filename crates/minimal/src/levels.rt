@@ -10,7 +10,7 @@ use crate::classes::Classes;
 use machine::Machine;
 
 // The class of the state that a key leads to.
-pub fn class_behind(m: Machine, classes: Classes, state: usize, key: usize) -> usize
+pub(crate) fn class_behind(m: Machine, classes: Classes, state: usize, key: usize) -> usize
     ensures { λ r. ⌜ r ≡ class-in (classes .of) (move (model (m .entry)) state key .to) ⌝ }
 {
     classes.of[m.next(state, key)]
@@ -35,14 +35,14 @@ fn smallest(m: Machine, classes: Classes, state: usize) -> usize
 }
 
 // Every state in one class: without a key all show the same.
-pub fn together() -> Classes
+pub(crate) fn together() -> Classes
     ensures { λ r. ⌜ ((s : ℕ) → getD (r .of) s 0 ≡ 0) ⌝ }
 {
     Classes { of: [0; 16] }
 }
 
 // Every state in a class of its own.
-pub fn apart() -> Classes
+pub(crate) fn apart() -> Classes
     ensures { λ r. ⌜ ((s : ℕ) → s < 16 → class-in (r .of) s ≡ s) ⌝ }
 {
     let mut of = [0; 16];
@@ -53,7 +53,7 @@ pub fn apart() -> Classes
 }
 
 // One key more: from the classes at a level those at the next.
-pub fn refine(m: Machine, classes: Classes) -> Classes
+pub(crate) fn refine(m: Machine, classes: Classes) -> Classes
     ensures finer { λ r. ⌜ ((s : ℕ) → s < length (model (m .entry)) → class-in (r .of) s ≡ finer (keys-of (m .entry)) (model (m .entry)) (classes .of) s) ⌝ }
     ensures level { λ r. ⌜ ((j : ℕ) → At-level (keys-of (m .entry)) (model (m .entry)) j (classes .of) → At-level (keys-of (m .entry)) (model (m .entry)) (j + 1) (r .of)) ⌝ }
 {
@@ -65,7 +65,7 @@ pub fn refine(m: Machine, classes: Classes) -> Classes
 }
 
 // The classes of equivalent states: states that differ do so on a word with fewer keys than there are states, so that many rounds less one are enough.
-pub fn classify(m: Machine) -> Classes
+pub(crate) fn classify(m: Machine) -> Classes
     ensures level { λ r. ⌜ At-level (keys-of (m .entry)) (model (m .entry)) (length (model (m .entry)) - 1) (r .of) ⌝ }
     ensures equivalence { λ r. ⌜ Equivalence (keys-of (m .entry)) (model (m .entry)) (class-in (r .of)) ⌝ }
 {

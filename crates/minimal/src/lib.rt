@@ -7,12 +7,6 @@ mod redundancy;
 mod searching;
 mod tree;
 
-pub use classes::Classes;
-pub use levels::apart;
-pub use levels::class_behind;
-pub use levels::classify;
-pub use levels::refine;
-pub use levels::together;
 pub use minimizing::minimize;
 pub use promises::minimal_exists;
 pub use promises::minimal_numbered_unique;
@@ -21,5 +15,4 @@ pub use promises::short_difference;
 pub use promises::short_separation;
 pub use redundancy::redundant;
 pub use searching::reach;
-pub use searching::search;
 pub use tree::Tree;

@@ -64,7 +64,7 @@ impl Tree {
 }
 
 // The classes that can be reached, in the order in which words in order first reach them.
-pub fn search(m: Machine, classes: Classes) -> Tree
+pub(crate) fn search(m: Machine, classes: Classes) -> Tree
     requires { ⌜ Congruence (keys-of m) (model m) (class-in (classes .of)) ⌝ }
     ensures { λ r. ⌜ Search-tree (keys-of (m .entry)) (class-after (class-in (classes .of)) (model (m .entry))) r ⌝ }
 {

@@ -126,7 +126,7 @@ fn each_behind<'a, S: Sink>(
 }
 
 // Hands on every test made of the words in front, at most `extra` keys, and the ends: each once, in order.
-pub fn each_test<'a, S: Sink>(
+pub(crate) fn each_test<'a, S: Sink>(
     fronts: &'a [Word],
     ends: &'a [Word],
     keys: u64,

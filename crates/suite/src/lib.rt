@@ -11,7 +11,6 @@ mod sinks;
 mod values;
 mod writing;
 
-pub use enumeration::each_test;
 pub use promises::each_test_once;
 pub use promises::equivalent_passes;
 pub use promises::few_tests;
@@ -19,7 +18,6 @@ pub use promises::more_extra_more_tests;
 pub use promises::passing_is_equivalent;
 pub use promises::tests_read_back;
 pub use rows::test_at;
-pub use rows::write_suite;
 pub use sink::Sink;
 pub use writing::each_test_for;
 pub use writing::prepare;

@@ -15,7 +15,7 @@ use machine::Refusal;
 use machine::word_at;
 
 // Writes the tests made of words that reach and words that tell apart, or says that there is no room for them and writes nothing.
-pub fn write_suite<'a>(
+pub(crate) fn write_suite<'a>(
     access: &'a [Word],
     ends: &'a [Word],
     keys: u64,
