@@ -76,29 +76,39 @@ def checksum(row):
     return c
 
 
-def survivor(row, longest, room):
-    out = [7] * room
-    refusal = refused_row(row)
-    if refusal is None:
-        n, k = row[0], row[1]
-        states = (longest + 1) * n
-        needed = 2 + 2 * states * k
-        if states > 4096:
-            refusal = (7, min(states, 2**32))
-        elif needed > room:
-            refusal = (8, needed)
-    if refusal is not None:
-        return f"{refusal[0]} {refusal[1]}, {checksum(out)}"
-    made = [states, k]
+def made(row, longest):
+    """The survivor's row."""
+    n, k = row[0], row[1]
+    numbers = [(longest + 1) * n, k]
     for pressed in range(longest + 1):
         for s in range(n):
             for x in range(k):
                 to, output = row[2 + 2 * (s * k + x)], row[3 + 2 * (s * k + x)]
                 if pressed == longest and x == 0:
                     output = (output + 1) % 2**32
-                made += [min(pressed + 1, longest) * n + to, output]
-    out[: len(made)] = made
+                numbers += [min(pressed + 1, longest) * n + to, output]
+    return numbers
+
+
+def survivor(row, longest, room):
+    out = [7] * room
+    refusal = refused_row(row)
+    if refusal is None:
+        states = (longest + 1) * row[0]
+        needed = 2 + 2 * states * row[1]
+        if states > 4096:
+            refusal = (7, min(states, 2**32))
+        elif needed > room:
+            refusal = (8, needed)
+    if refusal is not None:
+        return f"{refusal[0]} {refusal[1]}, {checksum(out)}"
+    out[:needed] = made(row, longest)
     return f"{states} states, {checksum(out)}"
+
+
+def survived(row, extra):
+    longest = max(len(test.replace("-", "")) for test in all_tests(row, extra))
+    return " ".join(map(str, row)) + f" / {extra}", " ".join(map(str, made(row, longest)))
 
 
 stdin, stdout = [], []
@@ -173,5 +183,6 @@ section("large", cases("large"))
 section("refusals", cases("refusals"))
 section("verdicts", numbered_verdicts())
 section("survivor", ((" / ".join([" ".join(map(str, row)), str(longest), str(room)]), survivor(row, longest, room)) for row, longest, room in SURVIVORS))
+section("survive", (survived(row, extra) for row in (PUMP, ONE) for extra in range(4)))
 open("crates/vectors/stdin", "w").write("\n".join(stdin) + "\n")
 open("crates/vectors/stdout", "w").write("\n".join(stdout) + "\n")

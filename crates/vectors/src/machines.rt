@@ -23,21 +23,25 @@ pub fn read_case(rt: &LibcRuntime, text: &str) -> Result<(), AnyError> {
     Ok(())
 }
 
+// The machine of so many states at the front of a row.
+pub fn print_machine(rt: &LibcRuntime, mut out: Vec<u64>, states: u64) -> Result<(), AnyError> {
+    let keys = out.get(1).copied().unwrap_or(0);
+    let needed = states
+        .saturating_mul(keys)
+        .saturating_mul(2)
+        .saturating_add(2);
+    out.truncate(needed as usize);
+    let line = joined(rt.alloc(), &out)?;
+    println!(rt, "{line}")?;
+    Ok(())
+}
+
 // A row: the row of its minimal machine, or the refusal.
 pub fn minimize_case(rt: &LibcRuntime, text: &str) -> Result<(), AnyError> {
     let row = numbers(rt.alloc(), text)?;
     let mut out = vec![in rt.alloc(); 0u64; 258]?;
     match minimal::minimize(&row, &mut out) {
-        Ok(states) => {
-            let keys = row.get(1).copied().unwrap_or(0);
-            let needed = states
-                .saturating_mul(keys)
-                .saturating_mul(2)
-                .saturating_add(2);
-            out.truncate(needed as usize);
-            let line = joined(rt.alloc(), &out)?;
-            println!(rt, "{line}")?;
-        }
+        Ok(states) => print_machine(rt, out, states)?,
         Err(refusal) => print_refusal(rt, refusal)?,
     }
     Ok(())

@@ -9,6 +9,7 @@ use machines::read_case;
 use machines::words_case;
 use std::error::AnyError;
 use std::io::Read;
+use survivors::survive_case;
 use survivors::survivor_case;
 use tests_cases::large_case;
 use tests_cases::refusal_case;
@@ -21,6 +22,7 @@ enum Kind {
     Minimize,
     Words,
     Survivor,
+    Survive,
     Tests,
     Large,
     Refusal,
@@ -33,6 +35,7 @@ fn kind_named(name: &str) -> Result<Kind, AnyError> {
         "minimize" => Ok(Kind::Minimize),
         "words" => Ok(Kind::Words),
         "survivor" => Ok(Kind::Survivor),
+        "survive" => Ok(Kind::Survive),
         "tests" => Ok(Kind::Tests),
         "large" => Ok(Kind::Large),
         "refusals" => Ok(Kind::Refusal),
@@ -47,6 +50,7 @@ fn run_case(rt: &LibcRuntime, kind: Kind, text: &str) -> Result<(), AnyError> {
         Kind::Minimize => minimize_case(rt, text),
         Kind::Words => words_case(rt, text),
         Kind::Survivor => survivor_case(rt, text),
+        Kind::Survive => survive_case(rt, text),
         Kind::Tests => tests_case(rt, text),
         Kind::Large => large_case(rt, text),
         Kind::Refusal => refusal_case(rt, text),
