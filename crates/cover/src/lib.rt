@@ -1,4 +1,6 @@
 // Access words and separating words of a minimal machine.
+#![tactic(auto)]
+
 mod collecting;
 mod cover;
 mod covering;

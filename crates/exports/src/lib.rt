@@ -1,4 +1,6 @@
 // The libraries' calls, exported for other languages.
+#![tactic(auto)]
+
 mod calls;
 mod outcomes;
 mod verdicts;

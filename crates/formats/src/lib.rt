@@ -1,4 +1,6 @@
 // What the programs share: numbers out of bytes, the machine and the extra states out of an input, a word as text.
+#![tactic(auto)]
+
 mod input;
 mod lending;
 mod text;

@@ -1,4 +1,6 @@
 // Judges what a board showed: bytes in, a line out.
+#![tactic(auto)]
+
 use anyhow::anyhow;
 use machine::Refusal;
 use std::io;

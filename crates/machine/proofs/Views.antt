@@ -9,7 +9,7 @@ use Rattle.machine.proofs.Rows.{Accepted, accepted, length_machine_in, move_in, 
 
 module _ (v : View) where
   -- the row of a view is not refused
-  view_accepted : Accepted v.row.now
+  pub view_accepted : Accepted v.row.now
   view_accepted = accepted v.row.now (none_from_test _ v.accepted)
 
   -- the machine has as many states as the view says

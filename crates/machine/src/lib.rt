@@ -1,4 +1,6 @@
 // Machines in lent rows of numbers: refusals, reading, running.
+#![tactic(auto)]
+
 mod making;
 mod reading;
 mod refusals;

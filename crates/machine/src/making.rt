@@ -32,9 +32,9 @@ pub trait Derive {
 
 // The whole row, over what the lent row held.
 fn write<D: Derive>(way: &D, m: Machine, out: &mut [u64])
-    requires writable { Writable (keys_of m) (made way.now (keys_of m) (model m)) }
-    requires fits { room (length (made way.now (keys_of m) (model m))) (keys_of m) ≤ length out.old }
-    ensures { out.new ≡ row_of (keys_of m.entry) (made way.now (keys_of m.entry) (model m.entry)) ++ drop (room (length (made way.now (keys_of m.entry) (model m.entry))) (keys_of m.entry)) out.old }
+    requires writable { Writable (keys_of m) (D.made way.now (keys_of m) (model m)) }
+    requires fits { room (length (D.made way.now (keys_of m) (model m))) (keys_of m) ≤ length out.old }
+    ensures { out.new ≡ row_of (keys_of m.entry) (D.made way.now (keys_of m.entry) (model m.entry)) ++ drop (room (length (D.made way.now (keys_of m.entry) (model m.entry))) (keys_of m.entry)) out.old }
 {
     let states = way.states(m);
     let keys = m.keys();
@@ -52,9 +52,9 @@ fn write<D: Derive>(way: &D, m: Machine, out: &mut [u64])
 
 // Writes a machine made of another into a lent row and answers its number of states, or refuses and writes nothing.
 pub fn write_machine<D: Derive>(way: &D, m: Machine, out: &mut [u64]) -> Result<u64, Refusal>
-    requires { Writable (keys_of m) (made way.now (keys_of m) (model m)) }
-    ensures written { MachineWritten (keys_of m.entry) (made way.now (keys_of m.entry) (model m.entry)) out.old result out.new }
-    ensures reads_back { ReadsBack (keys_of m.entry) (made way.now (keys_of m.entry) (model m.entry)) result out.new }
+    requires { Writable (keys_of m) (D.made way.now (keys_of m) (model m)) }
+    ensures written { MachineWritten (keys_of m.entry) (D.made way.now (keys_of m.entry) (model m.entry)) out.old result out.new }
+    ensures reads_back { ReadsBack (keys_of m.entry) (D.made way.now (keys_of m.entry) (model m.entry)) result out.new }
 {
     let states = way.states(m);
     let needed = 2 + 2 * (states * m.keys());

@@ -2,7 +2,6 @@
 use Rattle.std.proofs.Common.{◌≡◌, ℕ, suc, ◌<◌, ◌≤◌, eqb, ◌⊎◌, List, [], ◌∷◌, ◌++◌, length, get_or, sym, refl, ap, ◌∙◌, inl, inr, arith}
 use Rattle.std.proofs.ByRecursion.{All-push}
 use Rattle.std.proofs.lemmas.Bool.{eqb-true, eqb-false}
-use Rattle.machine.specs.First.{first}
 use Rattle.machine.specs.Machine.{Machine, Word, Keys, Proper, Minimal, Equivalent, EquivalentStates, move, outputs, after}
 use Rattle.machine.specs.Words.{Before}
 use Rattle.machine.proofs.First.{first_cases}

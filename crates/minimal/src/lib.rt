@@ -1,4 +1,6 @@
 // Which states are equivalent, and the minimal machine.
+#![tactic(auto)]
+
 mod classes;
 mod levels;
 mod minimizing;

@@ -1,11 +1,10 @@
 -- How many tests there are. Assumes nothing.
-use Rattle.std.proofs.Common.{◌≡◌, ℕ, zero, suc, ◌+◌, ◌*◌, ◌^◌, ◌<◌, ◌≤◌, Bool, true, false, cond, List, [], ◌∷◌, ◌++◌, map, length, sym, refl, ap, ◌∙◌, subst, suc-mul, mul-le-mul, zero-mul, mul-one, mul-add, arith, length-append}
+use Rattle.std.proofs.Common.{◌≡◌, ℕ, zero, suc, ◌+◌, ◌*◌, ◌^◌, ◌≤◌, List, [], ◌∷◌, ◌++◌, length, sym, refl, ap, ◌∙◌, subst, suc-mul, mul-le-mul, zero-mul, mul-one, mul-add, arith, length-append}
 use native.Mathlib.Nat.{pow-le-pow_left, pow-succ', pow-zero}
 use lib.ListN.{length-map}
-use Rattle.std.specs.List.{range_with_len}
-use Rattle.std.proofs.lemmas.List.FromFn.{length-range_with_len, length-map-range_with_len}
+use Rattle.std.proofs.lemmas.List.FromFn.{length-map-range_with_len}
 use Rattle.std.proofs.lemmas.Bool.{cond_both}
-use Rattle.machine.specs.Machine.{Machine, Word}
+use Rattle.machine.specs.Machine.{Word}
 use Rattle.machine.specs.Words.{each_behind, products, single_keys, of_length, up_to, listed, once_from, once}
 use Rattle.cover.specs.Cover.{first_reaching, access_words, separating_words}
 use Rattle.suite.specs.Promises.{words_up_to, FewTests}

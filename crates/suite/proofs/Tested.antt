@@ -1,6 +1,5 @@
 -- From the cover of a minimal machine to its tests, and to the answer of the call that writes them. Assumes nothing.
-use Rattle.std.proofs.Common.{◌≡◌, ℕ, ◌+◌, ◌-◌, ◌^◌, ◌<◌, ◌≤◌, min, leb, List, [], ◌∷◌, ◌++◌, length, take, drop, Ok, Err, Result, sym, refl, ap, ◌∙◌, subst, inl, inr, arith}
-use Rattle.std.specs.List.{AllByRecursion as All}
+use Rattle.std.proofs.Common.{◌≡◌, ℕ, ◌+◌, ◌-◌, ◌<◌, ◌≤◌, leb, List, [], ◌∷◌, length, take, drop, Ok, Err, Result, refl, ap, ◌∙◌, inr, arith}
 use Rattle.std.proofs.ByRecursion.{All-weaker}
 use Rattle.std.proofs.lemmas.List.{length-map, length-take}
 use Rattle.std.proofs.lemmas.Bool.{cond_both}
@@ -20,10 +19,10 @@ use Rattle.cover.specs.Words.{word_of, words_of}
 use Rattle.cover.specs.declared.cover.Cover.{Cover}
 use Rattle.cover.proofs.Access.{length_access, access_words_fewer, access_words_reach}
 use Rattle.cover.proofs.Separating.{separating_separates}
-use Rattle.suite.specs.Answer.{Testable, Follows, WroteTests, Crowded, TestsAnswered, made}
+use Rattle.suite.specs.Answer.{Testable, Follows, TestsAnswered, made}
 use Rattle.suite.specs.Kept.{Different}
 use Rattle.suite.specs.Suite.{suite, tests}
-use Rattle.suite.specs.Written.{MakesTests, TestsWritten, words_in, tests_row, room_for}
+use Rattle.suite.specs.Written.{MakesTests, TestsWritten, words_in, room_for}
 use Rattle.suite.proofs.Different.{different_once}
 use Rattle.suite.proofs.Equivalents.{access_words_keys, separating_words_keys, equivalent_passes}
 use Rattle.suite.proofs.Passing.{passing_suite_is_equivalent}

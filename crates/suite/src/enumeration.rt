@@ -64,7 +64,7 @@ fn repeated(against: Against, marks: &Marks, longer: bool, word: &[u64]) -> bool
 // Hands on every end behind `front`.
 fn each_end<S: Sink>(against: Against, front: Candidate, sink: &mut S)
     requires { (Fitting against front.len) × (against.own ≤ front.len) }
-    ensures { Fed step (fresh_of against.entry (candidate_of front) (words_of against.entry.ends.now)) sink.old sink.new }
+    ensures { Fed S.step (fresh_of against.entry (candidate_of front) (words_of against.entry.ends.now)) sink.old sink.new }
 {
     let begun = &front.keys[0..front.len];
     let marks = marks_behind(against, begun);
@@ -82,7 +82,7 @@ fn each_end<S: Sink>(against: Against, front: Candidate, sink: &mut S)
 // Hands on every word of `left` keys behind `front`, and every end behind that.
 fn each_between<S: Sink>(against: Against, front: Candidate, keys: u64, left: usize, sink: &mut S)
     requires { (Fitting against (front.len + left)) × (against.own ≤ front.len) }
-    ensures { Fed step (fresh_of against.entry (candidate_of front) (products (of_length keys left) (words_of against.entry.ends.now))) sink.old sink.new }
+    ensures { Fed S.step (fresh_of against.entry (candidate_of front) (products (of_length keys left) (words_of against.entry.ends.now))) sink.old sink.new }
 {
     if left == 0 {
         each_end(against, front, sink);
@@ -103,7 +103,7 @@ fn each_behind<'a, S: Sink>(
     sink: &mut S,
 )
     requires { extra ≤ 3 }
-    ensures { Fed step (kept_behind keys extra (words_of ends.now) (words_of earlier.now) (word_of own.now) (suc extra)) sink.old sink.new }
+    ensures { Fed S.step (kept_behind keys extra (words_of ends.now) (words_of earlier.now) (word_of own.now) (suc extra)) sink.old sink.new }
 {
     let front = candidate(own);
     for between in 0..extra + 1 {
@@ -127,7 +127,7 @@ pub(crate) fn each_test<'a, S: Sink>(
     sink: &mut S,
 )
     requires { extra ≤ 3 }
-    ensures { Fed step (kept keys extra (words_of fronts.now) (words_of ends.now)) sink.old sink.new }
+    ensures { Fed S.step (kept keys extra (words_of fronts.now) (words_of ends.now)) sink.old sink.new }
 {
     for i in 0..fronts.len() {
         each_behind(&fronts[0..i], &fronts[i], ends, keys, extra, sink);

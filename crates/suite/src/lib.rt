@@ -1,4 +1,6 @@
 // The tests for a minimal machine and a number of extra states.
+#![tactic(auto)]
+
 mod apart;
 mod enumeration;
 mod fronts;

@@ -30,7 +30,7 @@ pub fn prepare(row: &[u64], extra: u64) -> Result<Shape, Refusal>
 // Hands every test for a minimal machine to a sink: each once, in order.
 pub fn each_test_for<S: Sink>(m: Machine, extra: usize, sink: &mut S)
     requires { (Minimal (keys_of m) (model m)) × (extra ≤ 3) }
-    ensures fed { Fed step (tests (keys_of m.entry) extra (model m.entry)) sink.old sink.new }
+    ensures fed { Fed S.step (tests (keys_of m.entry) extra (model m.entry)) sink.old sink.new }
     ensures few { length (tests (keys_of m.entry) extra (model m.entry)) ≤ 10108800 }
 {
     let cover = Cover::of(m);

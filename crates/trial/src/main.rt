@@ -1,4 +1,6 @@
 // Judges boards made by chance, and compares each verdict with an independent decision.
+#![tactic(auto)]
+
 mod boards;
 mod deciding;
 mod random;

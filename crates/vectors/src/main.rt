@@ -1,4 +1,6 @@
 // Runs stored cases through the libraries: a line `== NAME` begins the cases of one kind, each further line is a case.
+#![tactic(auto)]
+
 mod machines;
 mod survivors;
 mod tests_cases;

@@ -1,4 +1,6 @@
 // Judging what a board showed on the tests.
+#![tactic(auto)]
+
 mod judging;
 mod progress;
 mod promises;

@@ -1,4 +1,6 @@
 // Writes the tests for a machine: bytes in, lines out.
+#![tactic(auto)]
+
 use std::alloc::{AllocError, Global};
 use std::io::Read;
 

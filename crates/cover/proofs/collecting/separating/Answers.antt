@@ -17,15 +17,15 @@ returns-then-states-le1 c =
 pub loop-s-init : goal.loop-s-init
 loop-s-init c = kept_starts c.args.m.keys (model c.args.m) c.blank-words.result c.blank-words.ensures.long
 
-pub telling-word-word-requires : goal.telling-word-word-requires
-telling-word-word-requires c =
+pub telling_word-word-requires : goal.telling_word-word-requires
+telling_word-word-requires c =
     let m = c.args.m in
     let s = c.loop-s.s in
     let t = c.pairs.t in
     let hs = c.pairs.invariant.0 in
     let ht = c.pairs-test.true in
     let apart = apart_level short_separation m.keys (model m) (view_proper m) c.requires t s ht hs in
-    record { table = c.levels-of-levels.ensures; first = omega arith; second = hs; apart = level_from_apart m.keys (model m) t s apart.0 apart.2 apart.1 }
+    record { table = c.levels_of-levels.ensures; first = omega arith; second = hs; apart = level_from_apart m.keys (model m) t s apart.0 apart.2 apart.1 }
 
 pub pairs-preserved-then-same : goal.pairs-preserved-then-same
 pairs-preserved-then-same c =
@@ -37,7 +37,7 @@ pairs-preserved-then-same c =
       kept_again m.keys (model m) c.loop-s.s c.pairs.t c.pairs.words c.pairs.count inv i l
           (kept_at m.keys (model m) c.loop-s.s c.pairs.t c.pairs.words c.pairs.count inv i c.index-words-i.result l
           ∙ same_true _ _ (sym c.same.ensures ∙ c.if-same.true)
-          ∙ c.telling-word-word.ensures),
+          ∙ c.telling_word-word.ensures),
     )
 
 pub loop-i-preserved : goal.loop-i-preserved
@@ -65,9 +65,9 @@ pairs-preserved c =
     let inv = c.pairs.invariant.1 in
     let end = c.loop-i-test.false in (
       hs,
-      kept_more m.keys (model m) c.loop-s.s c.pairs.t c.pairs.words c.pairs.count inv c.telling-word-word.result c.telling-word-word.ensures
+      kept_more m.keys (model m) c.loop-s.s c.pairs.t c.pairs.words c.pairs.count inv c.telling_word-word.result c.telling_word-word.ensures
           (kept_room m.keys (model m) c.loop-s.s c.pairs.t c.pairs.words c.pairs.count inv (omega arith) c.pairs-test.true)
-          (λ i l e. c.loop-i.invariant i (omega arith) (e ∙ sym c.telling-word-word.ensures)),
+          (λ i l e. c.loop-i.invariant i (omega arith) (e ∙ sym c.telling_word-word.ensures)),
     )
 
 pub loop-s-preserved : goal.loop-s-preserved

@@ -14,8 +14,8 @@ loop-left-init c =
     turn_starts c.args.m.keys (model c.args.m) c.args.t c.args.s c.empty-word.result.len c.at-left.result (word_of c.empty-word.result)
     c.requires.first c.requires.second c.requires.apart (c.at-left.ensures ∙ c.requires.table _ _ c.requires.first c.requires.second) c.empty-word.ensures.shortest c.empty-word.ensures.value
 
-pub first-key-x-requires : goal.first-key-x-requires
-first-key-x-requires c =
+pub first_key-x-requires : goal.first_key-x-requires
+first_key-x-requires c =
     let m = c.args.m in
     let some = c.loop-left-test.true in
     let short = c.loop-left.invariant.short in
@@ -32,10 +32,10 @@ pub loop-left-preserved : goal.loop-left-preserved
 loop-left-preserved c =
     let m = c.args.m in
     let some = c.loop-left-test.true in
-    let key = c.first-key-x.ensures in
+    let key = c.first_key-x.ensures in
     let same : c.loop-left.left ≡ suc (c.loop-left.left - 1) = omega arith in
     turn_goes m.keys (model m) c.args.t c.args.s c.loop-left.word.len c.loop-left.left (c.loop-left.left - 1) c.loop-left.p c.loop-left.q
-    (word_of c.loop-left.word) same c.loop-left.invariant c.first-key-x.result c.with-word.result.len c.next-p.result c.next-q.result (word_of c.with-word.result)
+    (word_of c.loop-left.word) same c.loop-left.invariant c.first_key-x.result c.with-word.result.len c.next-p.result c.next-q.result (word_of c.with-word.result)
     key.inside key.disagrees key.smallest c.next-p.ensures.value c.next-q.ensures.value c.next-p.ensures.inside c.next-q.ensures.inside
     c.with-word.ensures.longer c.with-word.ensures.value
 

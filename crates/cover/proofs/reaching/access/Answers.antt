@@ -4,8 +4,8 @@ use Rattle.machine.proofs.Views.{view_proper, few_states}
 use Rattle.cover.proofs.Reached.{found_inside, parent_inside, placed_short, placed_more, placed_all}
 use Rattle.cover.proofs.reaching.access.Goals as goal
 
-pub offset-bounds-words-parent : goal.offset-bounds-words-parent
-offset-bounds-words-parent c =
+pub offset_bounds-words-parent : goal.offset_bounds-words-parent
+offset_bounds-words-parent c =
     let m = c.args.m in
     let t = c.reach-tree.ensures in
     let few = few_states m in
@@ -41,8 +41,8 @@ with-requires c =
     p c.index-words-parent.result before (omega arith) in
     omega arith
 
-pub offset-bounds-words-tree : goal.offset-bounds-words-tree
-offset-bounds-words-tree c =
+pub offset_bounds-words-tree : goal.offset_bounds-words-tree
+offset_bounds-words-tree c =
     let m = c.args.m in
     let t = c.reach-tree.ensures in
     let few = few_states m in

@@ -8,7 +8,7 @@ use Rattle.formats.proofs.input.numbers.Goals as goal
 pub loop-i-preserved : goal.loop-i-preserved
 loop-i-preserved c =
     let bytes = c.args.bytes.now in
-    let pushed = chosen _ _ _ _ c.push.ensures.items (ap is_ok c.in-ok-push.was) in
+    let pushed = chosen _ _ _ _ c.push.ensures.items (ap is_ok c.in_ok-push.was) in
     let told = c.number.ensures in
     let more = map-range_with_len_more (number_at bytes) 0 c.loop-i.i c.loop-i.i (omega arith) in
     let inv = c.loop-i.invariant in

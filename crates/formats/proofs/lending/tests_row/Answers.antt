@@ -12,11 +12,11 @@ refused row e before f (inr c) = inr (c.testable, ap (λ (r : Reason). r.number)
 pub returns-in-Err : goal.returns-in-Err
 returns-in-Err c = refused c.args.row.now c.args.extra _ c.in-Err.refusal c.in-Err.ensures.0
 
-pub returns-in-Ok-write-tests : goal.returns-in-Ok-write-tests
-returns-in-Ok-write-tests c =
-    let told = c.in-Ok-write-tests.ensures in
-    let long : length c.write-tests-2.new.out ≡ c.in-ok-out.out.len = (let a = c.write-tests-2.auto.out in let b = c.deref-mut.ensures.len in omega arith) in
-    (_, take_at c.write-tests-2.new.out _ c.in-ok-out.out.len long ∙ told.row_is)
+pub returns-in-Ok-write_tests : goal.returns-in-Ok-write_tests
+returns-in-Ok-write_tests c =
+    let told = c.in-Ok-write_tests.ensures in
+    let long : length c.write_tests-2.new.out ≡ c.in_ok-out.out.len = (let a = c.write_tests-2.auto.out in let b = c.deref_mut.ensures.len in omega arith) in
+    (_, take_at c.write_tests-2.new.out _ c.in_ok-out.out.len long ∙ told.row_is)
 
-pub returns-in-Err-write-tests : goal.returns-in-Err-write-tests
-returns-in-Err-write-tests c = refused c.args.row.now c.args.extra _ c.in-Err-write-tests.refusal c.in-Err-write-tests.ensures.0
+pub returns-in-Err-write_tests : goal.returns-in-Err-write_tests
+returns-in-Err-write_tests c = refused c.args.row.now c.args.extra _ c.in-Err-write_tests.refusal c.in-Err-write_tests.ensures.0

@@ -8,7 +8,7 @@ pub loop-key-preserved : goal.loop-key-preserved
 loop-key-preserved c =
     let w = c.args.word.now in
     let i = c.loop-key.key-index in
-    let told = c.in-ok-push-2.ensures in
+    let told = c.in_ok-push-2.ensures in
     let more = map_more digit w i 0 c.loop-key-test.true in
     let ascii = told.ascii (omega arith) in
     let bytes = told.bytes in
@@ -22,5 +22,5 @@ some_keys (x ∷ w) h = refl
 pub returns : goal.returns
 returns c =
     let w = c.args.word.now in
-    let some : 0 < length w = let t = c.if-is-empty.ensures in grind (arith, nat_tests) in
+    let some : 0 < length w = let t = c.if-is_empty.ensures in grind (arith, nat_tests) in
     c.loop-key.invariant ∙ ap (map digit) (take_all _ w c.loop-key-test.false) ∙ sym (some_keys w some)

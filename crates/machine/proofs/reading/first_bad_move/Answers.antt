@@ -5,21 +5,21 @@ use Rattle.machine.proofs.First.{first_none, first_some}
 use Rattle.machine.proofs.Rows.{shaped, number_low, number_whole}
 use Rattle.machine.proofs.reading.first_bad_move.Goals as goal
 
-pub overflow-mul-number : goal.overflow-mul-number
-overflow-mul-number c = omega (arith, number_low c.args.row.now _ _ (shaped 16 8 _ c.requires.0) c.requires.1.states c.requires.1.keys _ _ c.scan-test.true c.loop-key-test.true)
+pub overflow_mul-number : goal.overflow_mul-number
+overflow_mul-number c = omega (arith, number_low c.args.row.now _ _ (shaped 16 8 _ c.requires.0) c.requires.1.states c.requires.1.keys _ _ c.scan-test.true c.loop-key-test.true)
 
-pub overflow-add-number : goal.overflow-add-number
-overflow-add-number c = omega (arith, number_low c.args.row.now _ _ (shaped 16 8 _ c.requires.0) c.requires.1.states c.requires.1.keys _ _ c.scan-test.true c.loop-key-test.true)
+pub overflow_add-number : goal.overflow_add-number
+overflow_add-number c = omega (arith, number_low c.args.row.now _ _ (shaped 16 8 _ c.requires.0) c.requires.1.states c.requires.1.keys _ _ c.scan-test.true c.loop-key-test.true)
 
-pub is-bad-requires : goal.is-bad-requires
-is-bad-requires c = (
+pub is_bad-requires : goal.is_bad-requires
+is_bad-requires c = (
   number_whole c.args.row.now _ _ (shaped 16 8 _ c.requires.0) c.requires.1.states c.requires.1.keys _ _ c.scan-test.true c.loop-key-test.true,
   number_low c.args.row.now _ _ (shaped 16 8 _ c.requires.0) c.requires.1.states c.requires.1.keys _ _ c.scan-test.true c.loop-key-test.true,
 )
 
 pub loop-key-preserved : goal.loop-key-preserved
 loop-key-preserved c =
-    let good : bad_move c.args.row.now (c.scan.state * c.args.shape.keys + c.loop-key.key) ≡ false = sym c.is-bad.ensures ∙ c.if-is-bad.false in
+    let good : bad_move c.args.row.now (c.scan.state * c.args.shape.keys + c.loop-key.key) ≡ false = sym c.is_bad.ensures ∙ c.if-is_bad.false in
     (c.loop-key.invariant.0, c.scan-test.true, λ j h. below_more _ _ c.loop-key.invariant.2 good j (omega arith))
 
 pub scan-preserved : goal.scan-preserved
@@ -34,7 +34,7 @@ returns-after-scan c =
     let e : c.scan.state ≡ c.args.shape.states = let a = c.scan-test.false in let b = c.scan.auto.state-end in omega arith in
     c.scan.invariant.0 ∙ sym (first_none _ _ (λ j h. c.scan.invariant.1 j (rw e h)))
 
-pub returns-then-is-bad : goal.returns-then-is-bad
-returns-then-is-bad c =
+pub returns-then-is_bad : goal.returns-then-is_bad
+returns-then-is_bad c =
     sym (first_some _ _ _ (digits_lt c.scan-test.true c.loop-key-test.true)
-    (sym c.is-bad.ensures ∙ c.if-is-bad.true) c.loop-key.invariant.2)
+    (sym c.is_bad.ensures ∙ c.if-is_bad.true) c.loop-key.invariant.2)

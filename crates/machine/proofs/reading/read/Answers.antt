@@ -6,24 +6,24 @@ use Rattle.machine.specs.Row.{states_in, keys_in}
 use Rattle.machine.proofs.Readings.{shape_refused, bad_move_refused, no_bad_move}
 use Rattle.machine.proofs.reading.read.Goals as goal
 
-pub returns-in-err-shape : goal.returns-in-err-shape
-returns-in-err-shape c =
-    let p = err_from_is_err_and c.from-residual.result c.from-residual.ensures.1 in
-    rw (p.1, p.2) (shape_refused c.args.row.now _ c.in-err-shape.ensures)
+pub returns-in_err-shape : goal.returns-in_err-shape
+returns-in_err-shape c =
+    let p = err_from_is_err_and c.from_residual.result c.from_residual.ensures.1 in
+    rw (p.1, p.2) (shape_refused c.args.row.now _ c.in_err-shape.ensures)
 
 pub returns-in-Some : goal.returns-in-Some
 returns-in-Some c =
-    let told = c.in-ok-shape.ensures in
+    let told = c.in_ok-shape.ensures in
     let row = c.args.row.now in
-    let moves : c.in-ok-shape.shape.states * c.in-ok-shape.shape.keys ≡ states_in row * keys_in row = cc (told.1.states, told.1.keys) in
-    bad_move_refused row told.0 _ (ap (first (bad_move row)) (sym moves) ∙ sym c.first-bad-move.ensures ∙ c.in-Some.is)
+    let moves : c.in_ok-shape.shape.states * c.in_ok-shape.shape.keys ≡ states_in row * keys_in row = cc (told.1.states, told.1.keys) in
+    bad_move_refused row told.0 _ (ap (first (bad_move row)) (sym moves) ∙ sym c.first_bad_move.ensures ∙ c.in-Some.is)
 
 pub returns-in-None : goal.returns-in-None
 returns-in-None c =
-    let told = c.in-ok-shape.ensures in
+    let told = c.in_ok-shape.ensures in
     let row = c.args.row.now in
-    let moves : c.in-ok-shape.shape.states * c.in-ok-shape.shape.keys ≡ states_in row * keys_in row = cc (told.1.states, told.1.keys) in
+    let moves : c.in_ok-shape.shape.states * c.in_ok-shape.shape.keys ≡ states_in row * keys_in row = cc (told.1.states, told.1.keys) in
     record {
-      accepted = no_bad_move row told.0 (ap (first (bad_move row)) (sym moves) ∙ sym c.first-bad-move.ensures ∙ c.in-None.is);
+      accepted = no_bad_move row told.0 (ap (first (bad_move row)) (sym moves) ∙ sym c.first_bad_move.ensures ∙ c.in-None.is);
       head = told.1;
     }

@@ -3,14 +3,14 @@ use Rattle.machine.specs.Row.{states_in, keys_in}
 use Rattle.machine.proofs.Readings.{headless, bad_states, bad_keys, cut_short, fits}
 use Rattle.machine.proofs.reading.read_shape.Goals as goal
 
-pub returns-in-default : goal.returns-in-default
-returns-in-default c = headless _ _ c.args.row.now (omega (arith, ltb-true, ltb-false))
+pub returns-in_default : goal.returns-in_default
+returns-in_default c = headless _ _ c.args.row.now (omega (arith, ltb-true, ltb-false))
 
-pub returns-in-default-within : goal.returns-in-default-within
-returns-in-default-within c = bad_states _ _ c.args.row.now (omega (arith, ltb-true, ltb-false)) c.in-default-within.ensures
+pub returns-in_default-within : goal.returns-in_default-within
+returns-in_default-within c = bad_states _ _ c.args.row.now (omega (arith, ltb-true, ltb-false)) c.in_default-within.ensures
 
-pub returns-in-default-within-2 : goal.returns-in-default-within-2
-returns-in-default-within-2 c = bad_keys _ _ c.args.row.now (omega (arith, ltb-true, ltb-false)) c.in-Some.ensures.0 c.in-default-within-2.ensures
+pub returns-in_default-within-2 : goal.returns-in_default-within-2
+returns-in_default-within-2 c = bad_keys _ _ c.args.row.now (omega (arith, ltb-true, ltb-false)) c.in-Some.ensures.0 c.in_default-within-2.ensures
 
 pub returns-then-row-states : goal.returns-then-row-states
 returns-then-row-states c =

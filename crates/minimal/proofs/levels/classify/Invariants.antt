@@ -4,4 +4,4 @@ use Rattle.minimal.specs.Levels.{AtLevel}
 use Rattle.minimal.proofs.levels.classify.Given as goal
 
 abbrev pub invariant-loop-round : goal.invariant-loop-round
-invariant-loop-round l = AtLevel (keys_of l.m) (model l.m) (l.-round - 1) l.classes.of
+invariant-loop-round l = AtLevel (keys_of l.m) (model l.m) (l._round - 1) l.classes.of

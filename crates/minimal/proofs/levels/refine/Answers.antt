@@ -6,8 +6,8 @@ use Rattle.minimal.specs.Levels.{class_in, finer}
 use Rattle.minimal.proofs.Refined.{finer_next}
 use Rattle.minimal.proofs.levels.refine.Goals as goal
 
-pub offset-bounds-of-state : goal.offset-bounds-of-state
-offset-bounds-of-state c = omega (arith, few_states c.args.m)
+pub offset_bounds-of-state : goal.offset_bounds-of-state
+offset_bounds-of-state c = omega (arith, few_states c.args.m)
 
 pub bounds-of-state : goal.bounds-of-state
 bounds-of-state c = omega (arith, few_states c.args.m)

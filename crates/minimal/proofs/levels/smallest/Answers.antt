@@ -10,8 +10,8 @@ others-preserved c =
     below_more _ _ c.loop-key.invariant.0 (
       c.loop-key.key,
       omega arith,
-      elim c.if-not-same-class.either [
-        | inl a ↦ other_class m of c.others.other c.args.state c.loop-key.key _ _ c.class-behind.ensures c.class-behind-in-loop-key.ensures a.1
+      elim c.if-not-same_class.either [
+        | inl a ↦ other_class m of c.others.other c.args.state c.loop-key.key _ _ c.class_behind.ensures c.class_behind-in-loop-key.ensures a.1
         | inr b ↦ other_output m of c.others.other c.args.state c.loop-key.key _ _ c.output.ensures.value c.output-in-loop-key.ensures.value b
       ],
     )

@@ -11,8 +11,8 @@ use Rattle.minimal.proofs.minimizing.minimize.Goals as goal
 pub search-tree-requires : goal.search-tree-requires
 search-tree-requires c = equivalence_congruence (view_proper c.over-m.result) c.classify-classes.ensures.equivalence
 
-pub write-machine-requires : goal.write-machine-requires
-write-machine-requires c =
+pub write_machine-requires : goal.write_machine-requires
+write_machine-requires c =
     let v = c.over-m.result in
     let tree = c.search-tree.result in
     quotient_writable (keys_of v) (model v) (class_in c.classify-classes.result.of) (class_in tree.classes) tree.count tree.few (few_keys v)
@@ -21,11 +21,11 @@ pub returns : goal.returns
 returns c =
     let v = c.over-m.result in
     let tree = c.search-tree.result in
-    let ok = c.in-ok-shape.ensures.accepted in
+    let ok = c.in_ok-shape.ensures.accepted in
     let low : (s x : ℕ) → (move (model v) s x).output < 2 ^ 32 = λ s x. rw c.over-m.ensures.0 (outputs_low c.args.row.now ok s x) in
     let both = answered_and_read c.args.row.now c.args.out.now (keys_of v) (model v) _ c.over-m.ensures.1 c.over-m.ensures.0 ok
     (found_machine (view_proper v) (class_in c.classify-classes.result.of) c.classify-classes.ensures.equivalence tree c.search-tree.ensures)
     (let few = tree.few in let many = length_quotient (keys_of v) (model v) (class_in c.classify-classes.result.of) (class_in tree.classes) tree.count in omega arith)
     (quotient_low (keys_of v) (model v) (class_in c.classify-classes.result.of) (class_in tree.classes) tree.count low)
-    c.write-machine.result c.write-machine.new.out c.write-machine.ensures.written c.write-machine.ensures.reads_back in
+    c.write_machine.result c.write_machine.new.out c.write_machine.ensures.written c.write_machine.ensures.reads_back in
     record { minimized = both.0; reads_back = both.1 }

@@ -5,8 +5,8 @@ use Rattle.minimal.specs.Levels.{class_in}
 use Rattle.minimal.proofs.Needed.{needed_state, needed_minimal, needed_not_redundant, redundant_class, redundant_place}
 use Rattle.minimal.proofs.redundancy.redundant.Goals as goal
 
-pub offset-bounds-classes-state : goal.offset-bounds-classes-state
-offset-bounds-classes-state c = omega (arith, few_states c.args.m)
+pub offset_bounds-classes-state : goal.offset_bounds-classes-state
+offset_bounds-classes-state c = omega (arith, few_states c.args.m)
 
 pub bounds-classes-state : goal.bounds-classes-state
 bounds-classes-state c = omega (arith, few_states c.args.m)

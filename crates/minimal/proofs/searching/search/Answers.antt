@@ -15,7 +15,7 @@ keys-preserved-then-place-tree c =
     let g = c.keys.invariant.0 in
     let hi = c.keys.invariant.1 in
     let hx : c.keys.key < keys_of c.args.m = omega arith in
-    let here = c.class-behind-class.ensures ∙ behind_is (view_proper c.args.m) c.requires _ _ _ g hi hx in
+    let here = c.class_behind-class.ensures ∙ behind_is (view_proper c.args.m) c.requires _ _ _ g hi hx in
     (grows_known _ _ _ g hi hx _ c.if-place-tree.true (placed _ _ _ _ _ c.place.ensures here c.if-place-tree.true), hi)
 
 pub with-tree-requires : goal.with-tree-requires
@@ -24,7 +24,7 @@ with-tree-requires c =
     let g = c.keys.invariant.0 in
     let hi = c.keys.invariant.1 in
     let hx : c.keys.key < keys_of m = omega arith in
-    let here = c.class-behind-class.ensures ∙ behind_is (view_proper m) c.requires _ _ _ g hi hx in
+    let here = c.class_behind-class.ensures ∙ behind_is (view_proper m) c.requires _ _ _ g hi hx in
     let room = grows_room _ _ _ g hi hx (unplaced _ _ _ _ _ c.place.ensures here c.if-place-tree.false) (length (model m)) (congruence_low (view_proper m) c.requires) in
     omega (arith, few_states m)
 
@@ -34,12 +34,12 @@ keys-preserved c =
     let g = c.keys.invariant.0 in
     let hi = c.keys.invariant.1 in
     let hx : c.keys.key < keys_of m = omega arith in
-    let here = c.class-behind-class.ensures ∙ behind_is (view_proper m) c.requires _ _ _ g hi hx in
+    let here = c.class_behind-class.ensures ∙ behind_is (view_proper m) c.requires _ _ _ g hi hx in
     let fresh = unplaced _ _ _ _ _ c.place.ensures here c.if-place-tree.false in
     let room : c.keys.tree.count < 16 = omega (arith, few_states m, grows_room _ _ _ g hi hx fresh (length (model m)) (congruence_low (view_proper m) c.requires)) in
     let made = c.with-tree.ensures in (
-      grows_new _ _ _ g hi hx fresh c.with-tree.result room made.0 (made.1 ∙ ap (set c.keys.tree.classes c.keys.tree.count) here) made.2 made.3,
-      (let e = made.0 in omega arith),
+      grows_new _ _ _ g hi hx fresh c.with-tree.result room made.count_value (made.classes_value ∙ ap (set c.keys.tree.classes c.keys.tree.count) here) made.parents_value made.keys_value,
+      (let e = made.count_value in omega arith),
     )
 
 pub parents-preserved : goal.parents-preserved

@@ -5,7 +5,7 @@ use Rattle.suite.proofs.apart.parts.Goals as goal
 
 pub returns-then-begins : goal.returns-then-begins
 returns-then-begins c =
-    parts_then c.args.front.now c.args.word.now c.args.n (words_of c.args.words.now) c.some-end.result (sym c.begins.ensures ∙ c.if-begins.true) c.some-end.ensures
+    parts_then c.args.front.now c.args.word.now c.args.n (words_of c.args.words.now) c.some_end.result (sym c.begins.ensures ∙ c.if-begins.true) c.some_end.ensures
 
 pub returns-else-begins : goal.returns-else-begins
 returns-else-begins c =

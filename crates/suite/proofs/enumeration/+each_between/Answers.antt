@@ -10,7 +10,7 @@ use Rattle.suite.proofs.enumeration.+each_between.Goals as goal
 pub returns-then-left-eq0 : goal.returns-then-left-eq0
 returns-then-left-eq0 g t c =
     let a = c.args.against in
-    fed_same g.S.Sink.step _ _ _ _ (ap (fresh_of a (candidate_of c.args.front)) (no_keys c.args.keys c.args.left (words_of a.ends.now) c.if-left-eq0.true)) c.each-end.ensures
+    fed_same g.S.Sink.step _ _ _ _ (ap (fresh_of a (candidate_of c.args.front)) (no_keys c.args.keys c.args.left (words_of a.ends.now) c.if-left-eq0.true)) c.each_end.ensures
 
 pub loop-key-init : goal.loop-key-init
 unfolding fresh_behind
@@ -26,9 +26,9 @@ loop-key-preserved g t c =
     let step = g.S.Sink.step in
     let inside : a.own ≤ length f = let h = c.requires.1 in omega (arith, length_candidate c.args.front) in
     fed_then step (fresh_of a f (products (products (single_keys x) us) ws)) (fresh_of a (f ++ x ∷ []) (products us ws)) (fresh_of a f (products (products (single_keys (x + 1)) us) ws))
-    c.args.sink.now c.loop-key.sink c.each-between.new.sink (key_more a.extra ws (words_of a.earlier.now) a.own a.between f x us ws inside) c.loop-key.invariant
-    (fed_same step (fresh_of a (candidate_of c.followed.result) (products us ws)) (fresh_of a (f ++ x ∷ []) (products us ws)) c.loop-key.sink c.each-between.new.sink
-    (ap (λ z. fresh_of a z (products us ws)) c.followed.ensures.0) c.each-between.ensures)
+    c.args.sink.now c.loop-key.sink c.each_between.new.sink (key_more a.extra ws (words_of a.earlier.now) a.own a.between f x us ws inside) c.loop-key.invariant
+    (fed_same step (fresh_of a (candidate_of c.followed.result) (products us ws)) (fresh_of a (f ++ x ∷ []) (products us ws)) c.loop-key.sink c.each_between.new.sink
+    (ap (λ z. fresh_of a z (products us ws)) c.followed.ensures.0) c.each_between.ensures)
 
 pub returns : goal.returns
 returns g t c =

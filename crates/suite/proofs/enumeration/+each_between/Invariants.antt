@@ -4,8 +4,8 @@ use Rattle.machine.specs.Words.{products, single_keys, of_length}
 use Rattle.suite.specs.Enumeration.{Fed, candidate_of, fresh_of}
 use Rattle.suite.proofs.enumeration.+each_between.Given as goal
 
-abbrev pub decreases-each-between : goal.decreases-each-between
-decreases-each-between g l = l.left
+abbrev pub decreases-each_between : goal.decreases-each_between
+decreases-each_between g l = l.left
 
 abbrev pub invariant-loop-key : goal.invariant-loop-key
 invariant-loop-key g l =

@@ -17,7 +17,7 @@ loop-between-preserved g c =
     let front = c.candidate-front.result in
     let same : candidate_of front ≡ word_of own = c.candidate-front.ensures.0 in
     let more = between_more c.args.keys c.args.extra (words_of c.args.ends.now) (words_of c.args.earlier.now) (word_of own) (candidate_of front) own.len c.loop-between.between same (length_word own) in
-    fed_then g.S.Sink.step _ _ _ c.args.sink.now c.loop-between.sink c.each-between.new.sink more c.loop-between.invariant c.each-between.ensures
+    fed_then g.S.Sink.step _ _ _ c.args.sink.now c.loop-between.sink c.each_between.new.sink more c.loop-between.invariant c.each_between.ensures
 
 pub returns : goal.returns
 returns g c =

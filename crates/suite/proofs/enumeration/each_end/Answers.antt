@@ -19,15 +19,15 @@ loop-i-preserved g c =
     let front = c.args.front in
     let x = get_or a.ends.now c.loop-i.i c.index-against-i.result in
     let is : x ≡ get_or a.ends.now c.loop-i.i x = get_or_default a.ends.now c.loop-i.i c.index-against-i.result x c.loop-i-test.true in
-    let same : candidate_of c.end-with.new.test ≡ take front.len c.loop-i.test.keys ++ word_of x = c.end-with.ensures.whole in
-    let whole : candidate_of c.end-with.new.test ≡ candidate_of front ++ word_of x = same ∙ ap (λ z. z ++ word_of x) c.loop-i.invariant.1 in
-    let found = came_up a front x c.end-with.new.test c.marks-behind-marks.result.at c.some-longer-longer.result c.repeated.result c.requires.0 c.requires.1
-    c.marks-behind-marks.ensures c.some-longer-longer.ensures whole c.repeated.ensures in
-    let begun = c.end-with.ensures.front ∙ c.loop-i.invariant.1 in
+    let same : candidate_of c.end_with.new.test ≡ take front.len c.loop-i.test.keys ++ word_of x = c.end_with.ensures.whole in
+    let whole : candidate_of c.end_with.new.test ≡ candidate_of front ++ word_of x = same ∙ ap (λ z. z ++ word_of x) c.loop-i.invariant.1 in
+    let found = came_up a front x c.end_with.new.test c.marks_behind-marks.result.at c.some_longer-longer.result c.repeated.result c.requires.0 c.requires.1
+    c.marks_behind-marks.ensures c.some_longer-longer.ensures whole c.repeated.ensures in
+    let begun = c.end_with.ensures.front ∙ c.loop-i.invariant.1 in
     elim c.if-not-repeated.branch [
       | then-not-repeated w ↦ rw w.sink-is (
         handed_on a front x g.S.Sink.step c.loop-i.i c.loop-i-test.true is c.args.sink.now c.loop-i.sink c.loop-i.invariant.0
-            _ (take (c.end-with.new.test.len - 0) c.end-with.new.test.keys) (sym w.if-not-repeated.true ∙ found) (take_from_zero c.end-with.new.test.len c.end-with.new.test.keys ∙ whole) w.put.ensures,
+            _ (take (c.end_with.new.test.len - 0) c.end_with.new.test.keys) (sym w.if-not-repeated.true ∙ found) (take_from_zero c.end_with.new.test.len c.end_with.new.test.keys ∙ whole) w.put.ensures,
         begun,
       )
       | else-not-repeated w ↦ rw w.sink-is (

@@ -15,8 +15,8 @@ use Rattle.suite.proofs.Feeding.{fed_same}
 use Rattle.suite.proofs.TestsRow.{handed_suite, tallied, tests_less, written_name, written_row}
 use Rattle.suite.proofs.rows.write_suite.Goals as goal
 
-pub with-key-fronts-requires : goal.with-key-fronts-requires
-with-key-fronts-requires c = (let n = c.requires.few in omega (arith, length-map c.args.access.now word_of), (c.requires.few_keys, c.requires.short))
+pub with_key-fronts-requires : goal.with_key-fronts-requires
+with_key-fronts-requires c = (let n = c.requires.few in omega (arith, length-map c.args.access.now word_of), (c.requires.few_keys, c.requires.short))
 
 -- what was counted
 counted : (k e : ℕ) (qs ws : List Word) (fronts : Fronts) (t : Tally) → MakesTests k e qs ws → fronts_of fronts ≡ with_key k qs →
@@ -28,28 +28,28 @@ counted k e qs ws fronts t makes same fed =
 
 pub returns-then-tally-out : goal.returns-then-tally-out
 returns-then-tally-out c =
-    let n = (counted c.args.keys c.args.extra (words_of c.args.access.now) (words_of c.args.ends.now) c.with-key-fronts.result c.each-test.new.sink c.requires c.with-key-fronts.ensures c.each-test.ensures).1 in
+    let n = (counted c.args.keys c.args.extra (words_of c.args.access.now) (words_of c.args.ends.now) c.with_key-fronts.result c.each_test.new.sink c.requires c.with_key-fronts.ensures c.each_test.ensures).1 in
     let h = c.if-tally-out.true in
     let m = c.min.ensures in
     (omega arith, ap NoRoomForTests (omega arith), refl)
 
 pub bounds-out-0 : goal.bounds-out-0
 bounds-out-0 c =
-    let n = (counted c.args.keys c.args.extra (words_of c.args.access.now) (words_of c.args.ends.now) c.with-key-fronts.result c.each-test.new.sink c.requires c.with-key-fronts.ensures c.each-test.ensures).1 in
+    let n = (counted c.args.keys c.args.extra (words_of c.args.access.now) (words_of c.args.ends.now) c.with_key-fronts.result c.each_test.new.sink c.requires c.with_key-fronts.ensures c.each_test.ensures).1 in
     let h = c.if-tally-out.false in
     omega arith
 
 pub returns : goal.returns
 returns c =
     let ts = suite c.args.keys c.args.extra (words_of c.args.access.now) (words_of c.args.ends.now) in
-    let n = counted c.args.keys c.args.extra (words_of c.args.access.now) (words_of c.args.ends.now) c.with-key-fronts.result c.each-test.new.sink c.requires c.with-key-fronts.ensures c.each-test.ensures in
+    let n = counted c.args.keys c.args.extra (words_of c.args.access.now) (words_of c.args.ends.now) c.with_key-fronts.result c.each_test.new.sink c.requires c.with_key-fronts.ensures c.each_test.ensures in
     let h = c.if-tally-out.false in
     let tests = n.0 in
     let numbers = n.1 in
     let less = tests_less ts in
     let fits : 1 + room_for ts ≤ length c.args.out.now = omega arith in
-    let count : c.each-test.new.sink.tests ≡ length ts = omega arith in
-    let fed = fed_same Wrote _ ts _ c.each-test-2.new.sink (handed_suite c.args.keys c.args.extra (words_of c.args.access.now) (words_of c.args.ends.now) c.with-key-fronts.result c.requires c.with-key-fronts.ensures) c.each-test-2.ensures in
-    let row = written_row ts c.args.out.now c.each-test.new.sink.tests _ c.each-test-2.new.sink fed refl refl count fits in
-    let same = written_name ts _ c.each-test-2.new.sink fed (omega (arith, length-set c.args.out.now 0 c.each-test.new.sink.tests)) in
+    let count : c.each_test.new.sink.tests ≡ length ts = omega arith in
+    let fed = fed_same Wrote _ ts _ c.each_test-2.new.sink (handed_suite c.args.keys c.args.extra (words_of c.args.access.now) (words_of c.args.ends.now) c.with_key-fronts.result c.requires c.with_key-fronts.ensures) c.each_test-2.ensures in
+    let row = written_row ts c.args.out.now c.each_test.new.sink.tests _ c.each_test-2.new.sink fed refl refl count fits in
+    let same = written_name ts _ c.each_test-2.new.sink fed (omega (arith, length-set c.args.out.now 0 c.each_test.new.sink.tests)) in
     (fits, count, search rules)

@@ -5,8 +5,8 @@ use Rattle.survivor.specs.Longest.{longest_of}
 use Rattle.survivor.proofs.Lengths.{word_fits, longest_more, longest_past, longest_none}
 use Rattle.survivor.proofs.longest.longest_test.Goals as goal
 
-pub returns-in-default : goal.returns-in-default
-returns-in-default c = sym (longest_past c.args.tests.now (get_or c.args.tests.now 0 0) 1 (omega (arith, ltb-true)))
+pub returns-in_default : goal.returns-in_default
+returns-in_default c = sym (longest_past c.args.tests.now (get_or c.args.tests.now 0 0) 1 (omega (arith, ltb-true)))
 
 pub loop-test-init : goal.loop-test-init
 loop-test-init c =
@@ -19,15 +19,15 @@ pub loop-test-preserved : goal.loop-test-preserved
 loop-test-preserved c =
     let row = c.args.tests.now in
     let n = get_or row 0 0 in
-    let i = c.loop-test.-test in
+    let i = c.loop-test._test in
     let at = c.loop-test.place in
     let more = longest_more row n i at c.loop-test-test.true in
     let fits = word_fits row at in
-    let len = ap length c.test-at-len.ensures in
-    let place : at + (1 + length c.test-at-len.result.now) ≡ at + suc (length (word_in row at)) = omega arith in
+    let len = ap length c.test_at-len.ensures in
+    let place : at + (1 + length c.test_at-len.result.now) ≡ at + suc (length (word_in row at)) = omega arith in
     let rest = ap (λ p. longest_of (words_in (n - (i + 1)) row p)) place in
     let inv = c.loop-test.invariant in
-    let big : c.max-longest.result ≡ max c.loop-test.longest (length c.test-at-len.result.now) = c.max-longest.ensures in
+    let big : c.max-longest.result ≡ max c.loop-test.longest (length c.test_at-len.result.now) = c.max-longest.ensures in
     let here = c.if-place-tests.false in
     (omega arith, omega arith)
 
@@ -35,7 +35,7 @@ pub returns-after-loop-test : goal.returns-after-loop-test
 returns-after-loop-test c =
     let row = c.args.tests.now in
     let inv = c.loop-test.invariant.0 in
-    let e : get_or row 0 0 - c.loop-test.-test ≡ 0 = (let l = c.loop-test-test.false in omega arith) in
+    let e : get_or row 0 0 - c.loop-test._test ≡ 0 = (let l = c.loop-test-test.false in omega arith) in
     let none = ap (λ z. longest_of (words_in z row c.loop-test.place)) e ∙ longest_none row c.loop-test.place in
     omega arith
 
@@ -43,5 +43,5 @@ pub returns-then-place-tests : goal.returns-then-place-tests
 returns-then-place-tests c =
     let row = c.args.tests.now in
     let inv = c.loop-test.invariant.0 in
-    let none = longest_past row (get_or row 0 0 - c.loop-test.-test) c.loop-test.place c.if-place-tests.true in
+    let none = longest_past row (get_or row 0 0 - c.loop-test._test) c.loop-test.place c.if-place-tests.true in
     omega arith

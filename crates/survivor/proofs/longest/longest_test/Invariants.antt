@@ -5,4 +5,4 @@ use Rattle.survivor.proofs.longest.longest_test.Given as goal
 
 abbrev pub invariant-loop-test : goal.invariant-loop-test
 invariant-loop-test l =
-    (max l.longest (longest_of (words_in (l.count - l.-test) l.tests l.place)) ≡ longest_of (words_in l.count l.tests 1)) × (l.place ≤ 1 + length l.tests)
+    (max l.longest (longest_of (words_in (l.count - l._test) l.tests l.place)) ≡ longest_of (words_in l.count l.tests 1)) × (l.place ≤ 1 + length l.tests)

@@ -12,43 +12,49 @@ use Rattle.survivor.proofs.making.survivor.Goals as goal
 own_states : (row : List ℕ) (m : Machine) (n longest : ℕ) → n ≡ length m → m ≡ Rattle.machine.specs.Row.machine_in row → (longest + 1) * n ≡ states_made row longest
 own_states row m n longest e is = ap (λ z. (longest + 1) * z) (e ∙ ap length is ∙ length_machine_in row)
 
-pub returns-in-err-shape : goal.returns-in-err-shape
-returns-in-err-shape c =
-    let p = err_from_is_err_and c.from-residual.result c.from-residual.ensures.1 in
-    rw (p.1, p.2) (row_refused c.args.row.now c.args.longest c.args.out.now _ c.in-err-shape.ensures, refl)
+pub returns-in_err-shape : goal.returns-in_err-shape
+returns-in_err-shape c =
+    let p = err_from_is_err_and c.from_residual.result c.from_residual.ensures.1 in
+    rw (p.1, p.2) (record {
+      written = (row_refused c.args.row.now c.args.longest c.args.out.now _ c.in_err-shape.ensures, refl);
+      reads_back = tt;
+    })
 
-pub small-bound-requires : goal.small-bound-requires
-small-bound-requires c = let s = (view_proper c.over-m.result).some in let e = c.states.ensures in omega arith
+pub small_bound-requires : goal.small_bound-requires
+small_bound-requires c = let s = (view_proper c.over-m.result).some in let e = c.states.ensures in omega arith
 
-pub returns-in-err-longest : goal.returns-in-err-longest
-returns-in-err-longest c =
-    let p = err_from_is_err_and c.from-residual-in-err-longest.result c.from-residual-in-err-longest.ensures.1 in
-    let told = c.in-err-longest.ensures in
+pub returns-in_err-longest : goal.returns-in_err-longest
+returns-in_err-longest c =
+    let p = err_from_is_err_and c.from_residual-in_err-longest.result c.from_residual-in_err-longest.ensures.1 in
+    let told = c.in_err-longest.ensures in
     let row = c.args.row.now in
     let longest = c.args.longest in
     let same = own_states row _ _ longest c.states.ensures c.over-m.ensures.0 in
-    rw (p.1, p.2) (
-      too_many row longest c.args.out.now c.in-ok-shape.ensures.accepted (let h = told.0 in omega arith)
-          ∙ ap {B = Option Reason} Some (sym (told.1 ∙ ap (λ z. reason 7 (min z (2 ^ 32))) same)),
-      refl,
-    )
+    rw (p.1, p.2) (record {
+      written = (
+        too_many row longest c.args.out.now c.in_ok-shape.ensures.accepted (let h = told.0 in omega arith)
+            ∙ ap {B = Option Reason} Some (sym (told.1 ∙ ap (λ z. reason 7 (min z (2 ^ 32))) same)),
+        refl,
+      );
+      reads_back = tt;
+    })
 
-pub write-machine-requires : goal.write-machine-requires
-write-machine-requires c =
+pub write_machine-requires : goal.write_machine-requires
+write_machine-requires c =
     let row = c.args.row.now in
-    let told = c.in-ok-longest.ensures in
+    let told = c.in_ok-longest.ensures in
     let same = own_states row _ _ c.args.longest c.states.ensures c.over-m.ensures.0 in
-    let ready = writable row c.args.longest c.args.out.now c.in-ok-shape.ensures.accepted (let h = told.1 in omega arith) in
+    let ready = writable row c.args.longest c.args.out.now c.in_ok-shape.ensures.accepted (let h = told.1 in omega arith) in
     simp (c.over-m.ensures.0, c.over-m.ensures.1, told.0) ready
 
 pub returns : goal.returns
 returns c =
     let row = c.args.row.now in
-    let told = c.in-ok-longest.ensures in
+    let told = c.in_ok-longest.ensures in
     let same = own_states row _ _ c.args.longest c.states.ensures c.over-m.ensures.0 in
     record {
-      written = answered row c.args.longest c.args.out.now c.in-ok-shape.ensures.accepted (let h = told.1 in omega arith) c.write-machine.result c.write-machine.new.out
-          (simp (c.over-m.ensures.0, c.over-m.ensures.1, told.0) at c.write-machine.ensures.written);
-      reads_back = read_again row c.args.longest c.args.out.now c.in-ok-shape.ensures.accepted (let h = told.1 in omega arith) c.write-machine.result c.write-machine.new.out
-          (simp (c.over-m.ensures.0, c.over-m.ensures.1, told.0) at c.write-machine.ensures.reads_back);
+      written = answered row c.args.longest c.args.out.now c.in_ok-shape.ensures.accepted (let h = told.1 in omega arith) c.write_machine.result c.write_machine.new.out
+          (simp (c.over-m.ensures.0, c.over-m.ensures.1, told.0) at c.write_machine.ensures.written);
+      reads_back = read_again row c.args.longest c.args.out.now c.in_ok-shape.ensures.accepted (let h = told.1 in omega arith) c.write_machine.result c.write_machine.new.out
+          (simp (c.over-m.ensures.0, c.over-m.ensures.1, told.0) at c.write_machine.ensures.reads_back);
     }

@@ -9,11 +9,13 @@ use Rattle.cover.proofs.Access.{access_words_reach, access_words_first, access_w
 use Rattle.cover.proofs.Separating.{separating_separates, separating_first, separating_only, separating_once, separating_short}
 use Rattle.cover.proofs.cover.Cover.of.Goals as goal
 
-pub invariant-of-result : goal.invariant-of-result
-invariant-of-result c = (
-  (let f = few_states c.args.m in let e = c.states-states.ensures in omega arith),
-  (c.access-access.ensures.long, ((let f = c.separating-kept.result.few in omega arith), (c.separating-kept.result.long, tt))),
-)
+pub invariant_of-result : goal.invariant_of-result
+invariant_of-result c = record {
+  few = (let f = few_states c.args.m in let e = c.states-states.ensures in omega arith);
+  wide = c.access-access.ensures.long;
+  room = (let f = c.separating-kept.result.few in omega arith);
+  long = c.separating-kept.result.long;
+}
 
 pub returns : goal.returns
 returns c =

@@ -3,9 +3,9 @@ use Rattle.machine.specs.Machine.{Move}
 use Rattle.machine.proofs.Views.{view_proper, view_states}
 use Rattle.machine.proofs.view.Machine.next.Goals as goal
 
-pub returns-in-default : goal.returns-in-default
-returns-in-default c = record {
-  value = sym (ap (λ (a : Move). a.to) c.in-default.ensures);
+pub returns-in_default : goal.returns-in_default
+returns-in_default c = record {
+  value = sym (ap (λ (a : Move). a.to) c.in_default.ensures);
   inside = (view_proper c.args.self).some;
 }
 

@@ -11,17 +11,17 @@ returns-then-state-self c =
       | inr h ↦ no_key_in v.row.now _ _ (let e = v.second in let g = h.1 in omega arith)
     ]
 
-pub overflow-mul-result : goal.overflow-mul-result
-overflow-mul-result c = omega (arith, move_number_low c.args.self _ _ c.if-state-self.false c.if-key-self.false)
+pub overflow_mul-result : goal.overflow_mul-result
+overflow_mul-result c = omega (arith, move_number_low c.args.self _ _ c.if-state-self.false c.if-key-self.false)
 
-pub overflow-add-result : goal.overflow-add-result
-overflow-add-result c = omega (arith, move_number_low c.args.self _ _ c.if-state-self.false c.if-key-self.false)
+pub overflow_add-result : goal.overflow_add-result
+overflow_add-result c = omega (arith, move_number_low c.args.self _ _ c.if-state-self.false c.if-key-self.false)
 
-pub overflow-mul-result-2 : goal.overflow-mul-result-2
-overflow-mul-result-2 c = omega (arith, move_number_low c.args.self _ _ c.if-state-self.false c.if-key-self.false)
+pub overflow_mul-result-2 : goal.overflow_mul-result-2
+overflow_mul-result-2 c = omega (arith, move_number_low c.args.self _ _ c.if-state-self.false c.if-key-self.false)
 
-pub overflow-add-result-2 : goal.overflow-add-result-2
-overflow-add-result-2 c = omega (arith, move_number_low c.args.self _ _ c.if-state-self.false c.if-key-self.false)
+pub overflow_add-result-2 : goal.overflow_add-result-2
+overflow_add-result-2 c = omega (arith, move_number_low c.args.self _ _ c.if-state-self.false c.if-key-self.false)
 
 pub returns : goal.returns
 returns c = move_stands c.args.self _ _ c.if-state-self.false c.if-key-self.false

@@ -9,7 +9,7 @@ use Rattle.minimal.proofs.minimizing.QuotientDeriveImpl.output.Goals as goal
 pub bounds-self-state : goal.bounds-self-state
 bounds-self-state c =
     let q = c.args.self.now in
-    let h = state_found (keys_of c.args.m) (model c.args.m) (class_in q.classes.of) (class_in q.tree.classes) q.tree.count _ c.requires.state-within in
+    let h = state_found (keys_of c.args.m) (model c.args.m) (class_in q.classes.of) (class_in q.tree.classes) q.tree.count _ c.requires.state_within in
     let f = q.tree.few in
     omega arith
 
@@ -19,6 +19,6 @@ returns c =
     let m = model c.args.m in
     let class = class_in q.classes.of in
     let entry = class_in q.tree.classes in
-    let h = state_found (keys_of c.args.m) m class entry q.tree.count _ c.requires.state-within in
-    let here = ap (λ (a : Move). a.output) (move_quotient (keys_of c.args.m) m class entry q.tree.count c.args.state c.args.key h c.requires.key-within) in
+    let h = state_found (keys_of c.args.m) m class entry q.tree.count _ c.requires.state_within in
+    let here = ap (λ (a : Move). a.output) (move_quotient (keys_of c.args.m) m class entry q.tree.count c.args.state c.args.key h c.requires.key_within) in
     c.output.ensures.value ∙ sym here

@@ -7,4 +7,4 @@ use Rattle.minimal.proofs.minimizing.QuotientDeriveImpl.states.Goals as goal
 pub returns : goal.returns
 returns c =
     let q = c.args.self.now in
-    sym (length_quotient (keys_of c.args.-m) (model c.args.-m) (class_in q.classes.of) (class_in q.tree.classes) q.tree.count)
+    sym (length_quotient (keys_of c.args._m) (model c.args._m) (class_in q.classes.of) (class_in q.tree.classes) q.tree.count)

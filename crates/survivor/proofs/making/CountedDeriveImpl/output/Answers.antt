@@ -6,16 +6,16 @@ use Rattle.survivor.proofs.Layers.{wrong_shown, right_shown}
 use Rattle.survivor.proofs.making.CountedDeriveImpl.output.Goals as goal
 use Rattle.survivor.proofs.making.CountedDeriveImpl.output.Goals.{else-state-own-via-then-state-own+else-key-eq0, else-state-own-via-else-state-own}
 
-pub nonzero-rem-state : goal.nonzero-rem-state
-nonzero-rem-state c = let s = (view_proper c.args.m).some in let e = c.states-own.ensures in omega arith
+pub nonzero_rem-state : goal.nonzero_rem-state
+nonzero_rem-state c = let s = (view_proper c.args.m).some in let e = c.states-own.ensures in omega arith
 
-pub nonzero-div-state : goal.nonzero-div-state
-nonzero-div-state c = let s = (view_proper c.args.m).some in let e = c.states-own.ensures in omega arith
+pub nonzero_div-state : goal.nonzero_div-state
+nonzero_div-state c = let s = (view_proper c.args.m).some in let e = c.states-own.ensures in omega arith
 
 pub returns-then-key-eq0 : goal.returns-then-key-eq0
 returns-then-key-eq0 c =
     wrong_shown (keys_of c.args.m) (model c.args.m) c.args.self.now.longest (view_proper c.args.m) c.requires.writable _ _ _ _ _
-    c.requires.state-within c.requires.key-within c.states-own.ensures c.output-shown.ensures.value c.if-state-own.true c.if-key-eq0.true c.another.ensures
+    c.requires.state_within c.requires.key_within c.states-own.ensures c.output-shown.ensures.value c.if-state-own.true c.if-key-eq0.true c.another.ensures
 
 pub returns-else-state-own : goal.returns-else-state-own
 returns-else-state-own c =
@@ -26,4 +26,4 @@ returns-else-state-own c =
       | else-state-own-via-else-state-own w ↦ and_left _ _ (ne_eqb _ _ w.if-state-own.false)
     ] in
     right_shown (keys_of c.args.m) (model c.args.m) longest (view_proper c.args.m) c.requires.writable _ _ _ _
-    c.requires.state-within c.requires.key-within c.states-own.ensures c.output-shown.ensures.value not_yet
+    c.requires.state_within c.requires.key_within c.states-own.ensures c.output-shown.ensures.value not_yet

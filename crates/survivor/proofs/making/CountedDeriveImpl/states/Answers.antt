@@ -5,11 +5,11 @@ use Rattle.survivor.proofs.Layers.{states_low, longest_low}
 use Rattle.survivor.proofs.Survivors.{length_survivor}
 use Rattle.survivor.proofs.making.CountedDeriveImpl.states.Goals as goal
 
-pub overflow-add-result : goal.overflow-add-result
-overflow-add-result c = omega (arith, longest_low (keys_of c.args.m) (model c.args.m) c.args.self.now.longest (view_proper c.args.m) c.requires)
+pub overflow_add-result : goal.overflow_add-result
+overflow_add-result c = omega (arith, longest_low (keys_of c.args.m) (model c.args.m) c.args.self.now.longest (view_proper c.args.m) c.requires)
 
-pub overflow-mul-result : goal.overflow-mul-result
-overflow-mul-result c =
+pub overflow_mul-result : goal.overflow_mul-result
+overflow_mul-result c =
     let low = states_low (keys_of c.args.m) (model c.args.m) c.args.self.now.longest (view_proper c.args.m) c.requires in
     let e = ap (λ n. (c.args.self.now.longest + 1) * n) c.states.ensures in
     omega arith
