@@ -1,6 +1,6 @@
 -- What is promised of access words and separating words, in words that say nothing of how they are found. Assumes nothing.
 use Rattle.std.specs.Prelude.{◌≡◌, ℕ, ◌<◌, List, [], length, ◌≢◌, slice_index_or}
-use Rattle.std.specs.List.{AllByRecursion as All}
+use Rattle.std.specs.List.{AllByRecursion}
 use Rattle.machine.specs.Machine.{Machine, Word, after}
 use Rattle.machine.specs.Words.{FirstWord}
 use Rattle.cover.specs.Cover.{Tells}
@@ -24,4 +24,4 @@ EachOnce ws = (i j : ℕ) → i < j → j < length ws → slice_index_or ws i []
 
 -- every word has fewer keys than the machine has states
 abbrev pub FewerKeys : Machine → List Word → Type 0
-FewerKeys m ws = All (λ w. length w < length m) ws
+FewerKeys m ws = AllByRecursion (λ w. length w < length m) ws

@@ -1,7 +1,7 @@
 -- The words of at most so many keys stand in order in their enumeration, each of them, so the first there that passes a test is the first of all words. Assumes nothing.
 use Rattle.std.proofs.Common.{◌≡◌, ℕ, zero, suc, ◌+◌, ◌≤◌, Bool, true, cond, ◌⊎◌, List, [], ◌∷◌, ◌++◌, map, length, sym, refl, ap, ◌∙◌, subst, inl, inr, arith}
 use mathlib.Core.List.Memᴰ
-use Rattle.std.specs.List.{range_with_len, AllByRecursion as All}
+use Rattle.std.specs.List.{range_with_len, AllByRecursion}
 use Rattle.std.proofs.lemmas.Bool.{cases_Bool, cond-true, cond-false, cond_both, both_ways}
 use Rattle.machine.specs.Machine.{Word, Keys}
 use Rattle.machine.specs.Words.{Before, FirstWord, In, Different, each_behind, products, of_length, up_to}
@@ -70,7 +70,7 @@ first_in p [] = []
 first_in p (w ∷ ws) = cond (p w) w (first_in p ws)
 
 -- what holds of each of them, and of the empty word
-pub first_in_all : (P : Word → Type 0) (p : Word → Bool) (ws : List Word) → P [] → All P ws → P (first_in p ws)
+pub first_in_all : (P : Word → Type 0) (p : Word → Bool) (ws : List Word) → P [] → AllByRecursion P ws → P (first_in p ws)
 unfolding first_in
 first_in_all P p [] e h = e
 first_in_all P p (w ∷ ws) e h = cond_both (p w) w (first_in p ws) P (λ _. h.0) (λ _. first_in_all P p ws e h.1)

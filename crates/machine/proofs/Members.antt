@@ -2,7 +2,7 @@
 use Rattle.std.proofs.Common.{◌≡◌, ℕ, zero, suc, ◌+◌, ◌<◌, ◌≤◌, List, [], ◌∷◌, ◌++◌, length, get_or, sym, refl, ap, subst, inl, inr, arith}
 use mathlib.Core.List.Memᴰ
 use mathlib.Core.List.{Memᴰ}
-use Rattle.std.specs.List.{range_with_len, flat_map, ContainsAt as Has, AllByRecursion as All}
+use Rattle.std.specs.List.{range_with_len, flat_map, ContainsAt as Has, AllByRecursion}
 use Rattle.std.proofs.ByRecursion.{all-has, All-from_get_or}
 use Rattle.std.proofs.lemmas.Bool.{cases_eq, cases_lt}
 use Rattle.machine.specs.Machine.{Word, Keys}
@@ -24,11 +24,11 @@ pub has_in : {w : Word} (ws : List Word) → Has ws w → In w ws
 has_in ws h = Memᴰ.cast (sym (h.2 [])) (in_get_or ws h.0 h.1)
 
 -- what holds of each holds of one that stands there, and the other way round
-pub all_in : (P : Word → Type 0) {w : Word} (ws : List Word) → All P ws → In w ws → P w
+pub all_in : (P : Word → Type 0) {w : Word} (ws : List Word) → AllByRecursion P ws → In w ws → P w
 all_in P {w} ws a m = all-has P ws w a (in_has m)
 
 -- what holds of every word that stands there holds of each
-pub in_all : (P : Word → Type 0) (ws : List Word) → ((w : Word) → In w ws → P w) → All P ws
+pub in_all : (P : Word → Type 0) (ws : List Word) → ((w : Word) → In w ws → P w) → AllByRecursion P ws
 in_all P ws h = All-from_get_or P ws [] (λ i l. h (get_or ws i []) (in_get_or ws i l))
 
 -- a number from a on, below a + n, is one of the n numbers counted from a

@@ -1,6 +1,6 @@
 -- Machines with keys and outputs, and what they do with words of keys. Assumes nothing: these are definitions.
 use Rattle.std.specs.Prelude.{◌≡◌, ℕ, ◌<◌, List, [], ◌∷◌, length, slice_index_or}
-use Rattle.std.specs.List.{AllByRecursion as All}
+use Rattle.std.specs.List.{AllByRecursion}
 
 -- what a key does in a state: the state that it leads to, and the output
 pub record Move : Type 0 where
@@ -41,7 +41,7 @@ pub record Proper (k : ℕ) (m : Machine) : Type 0 where
 
 -- a word of keys that are there
 abbrev pub Keys : ℕ → Word → Type 0
-Keys k w = All (λ x. x < k) w
+Keys k w = AllByRecursion (λ x. x < k) w
 
 -- machine m begun in s shows what machine i begun in t shows, for every word of keys, however long
 abbrev pub SameOutputs : ℕ → Machine → ℕ → Machine → ℕ → Type 0

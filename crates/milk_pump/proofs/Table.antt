@@ -1,6 +1,6 @@
 -- The table of the worked example, by one test over all of it that antt computes. Assumes nothing.
 use Rattle.std.proofs.Common.{◌≡◌, Bool, true, false, ◌&&◌, List, [], ◌∷◌, sym, refl, subst}
-use Rattle.std.specs.List.{AllByRecursion as All}
+use Rattle.std.specs.List.{AllByRecursion}
 use Rattle.std.proofs.lemmas.Bool.{and_parts, both_ways}
 use Rattle.machine.specs.First.{first}
 use Rattle.machine.specs.Machine.{Word, move, outputs, after}
@@ -74,7 +74,7 @@ all_right [] = true
 all_right (x ∷ xs) = right x && all_right xs
 
 -- the test of a table is the rule at each entry
-each_right : (xs : List Entry) → all_right xs ≡ true → All Right xs
+each_right : (xs : List Entry) → all_right xs ≡ true → AllByRecursion Right xs
 unfolding all_right
 each_right [] e = tt
 each_right (x ∷ xs) e =
@@ -87,5 +87,5 @@ unfolding all_right right same_words same_verdict tests suite candidates access_
 computed = refl
 
 -- so every entry of it obeys the rule
-pub entries : All Right example
+pub entries : AllByRecursion Right example
 entries = each_right example computed

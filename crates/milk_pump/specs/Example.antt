@@ -1,7 +1,7 @@
 -- The worked example: the tests of the pump, and what they find of each board. Assumes nothing: these are definitions.
 use Rattle.std.specs.Prelude.{◌≡◌, ℕ, suc, cond, List, [], ◌∷◌, map}
 use Prim.Native.String.{String}
-use Rattle.std.specs.List.{AllByRecursion as All}
+use Rattle.std.specs.List.{AllByRecursion}
 use Rattle.machine.specs.Machine.{Machine, Word, Proper, Minimal}
 use Rattle.machine.specs.Words.{same}
 use Rattle.cover.specs.Cover.{access_words, separating_words}
@@ -66,4 +66,4 @@ pub record WorkedExample : Type 0 where
   pub minimal : Minimal 2 pump
   pub access : access_words 2 pump ≡ map word ("" ∷ "0" ∷ "00" ∷ [])
   pub separating : separating_words 2 pump ≡ map word ("1" ∷ [])
-  pub entries : All Right example
+  pub entries : AllByRecursion Right example

@@ -1,7 +1,7 @@
 -- Lists in which no word stands twice, and keeping each word once. Assumes nothing.
 use Rattle.std.proofs.Common.{◌≡◌, ℕ, zero, suc, ◌+◌, ◌<◌, Bool, true, false, not, ◌||◌, List, [], ◌∷◌, ◌++◌, map, length, take, filter, sym, refl, ap, ◌∙◌, inl, inr, arith}
 use mathlib.Core.List.Memᴰ
-use Rattle.std.specs.List.{range_with_len, AllByRecursion as All}
+use Rattle.std.specs.List.{range_with_len, AllByRecursion}
 use Rattle.std.proofs.lemmas.List.{append_cancel_left, take_at}
 use Rattle.std.proofs.lemmas.Bool.{cases_Bool, or_cases, or_right, or_parts, both_ways}
 use Rattle.machine.specs.Machine.{Word}
@@ -59,7 +59,7 @@ once_from_append seen (u ∷ us) vs = elim (cases_Bool (listed u seen)) [
         swap true false d = refl
         swap false b d = refl
 
-pub kept_by_same : (f g : Word → Bool) (ws : List Word) → All (λ w. f w ≡ g w) ws → filter f ws ≡ filter g ws
+pub kept_by_same : (f g : Word → Bool) (ws : List Word) → AllByRecursion (λ w. f w ≡ g w) ws → filter f ws ≡ filter g ws
 kept_by_same f g [] h = refl
 kept_by_same f g (w ∷ ws) h = rw (h.0, kept_by_same f g ws h.1)
 
@@ -79,7 +79,7 @@ once_from_different seen (w ∷ ws) d = elim (cases_Bool (listed w seen)) [
     ]
 
 -- what is kept once stands once
-pub different_once_from : (seen ws : List Word) → Different (once_from seen ws) × All (λ w. listed w seen ≡ false) (once_from seen ws)
+pub different_once_from : (seen ws : List Word) → Different (once_from seen ws) × AllByRecursion (λ w. listed w seen ≡ false) (once_from seen ws)
 unfolding once_from listed
 different_once_from seen [] = (tt, tt)
 different_once_from seen (w ∷ ws) = elim (cases_Bool (listed w seen)) [
@@ -87,15 +87,15 @@ different_once_from seen (w ∷ ws) = elim (cases_Bool (listed w seen)) [
   | inr n ↦ rw n (fresh n (different_once_from (w ∷ seen) ws))
 ]
   where
-    fresh : listed w seen ≡ false → Different (once_from (w ∷ seen) ws) × All (λ c. (same c w || listed c seen) ≡ false) (once_from (w ∷ seen) ws) →
-        Different (w ∷ once_from (w ∷ seen) ws) × All (λ c. listed c seen ≡ false) (w ∷ once_from (w ∷ seen) ws)
+    fresh : listed w seen ≡ false → Different (once_from (w ∷ seen) ws) × AllByRecursion (λ c. (same c w || listed c seen) ≡ false) (once_from (w ∷ seen) ws) →
+        Different (w ∷ once_from (w ∷ seen) ws) × AllByRecursion (λ c. listed c seen ≡ false) (w ∷ once_from (w ∷ seen) ws)
     fresh n r = ((not_in (once_from (w ∷ seen) ws) (λ m. apart (once_from (w ∷ seen) ws) r.1 m), r.0), (n, weaker (once_from (w ∷ seen) ws) r.1))
       where
-        apart : (cs : List Word) → All (λ c. (same c w || listed c seen) ≡ false) cs → In w cs → ⊥
+        apart : (cs : List Word) → AllByRecursion (λ c. (same c w || listed c seen) ≡ false) cs → In w cs → ⊥
         apart [] a m = Memᴰ.not-nil m
         apart (c ∷ cs) a m = elim (Memᴰ.cases_cons m) [ inl e ↦ both_ways (same c w) (or_parts (same c w) (listed c seen) a.0).0 (eq_same c w (sym e)) | inr t ↦ apart cs a.1 t ]
 
-        weaker : (cs : List Word) → All (λ c. (same c w || listed c seen) ≡ false) cs → All (λ c. listed c seen ≡ false) cs
+        weaker : (cs : List Word) → AllByRecursion (λ c. (same c w || listed c seen) ≡ false) cs → AllByRecursion (λ c. listed c seen ≡ false) cs
         weaker [] a = tt
         weaker (c ∷ cs) a = ((or_parts (same c w) (listed c seen) a.0).1, weaker cs a.1)
 
@@ -117,12 +117,12 @@ different_behind v (w ∷ ws) d = (
 )
 
 -- words of one length, each followed by each of some words
-pub different_products : (n : ℕ) (us ws : List Word) → All (λ u. length u ≡ n) us → Different us → Different ws → Different (products us ws)
+pub different_products : (n : ℕ) (us ws : List Word) → AllByRecursion (λ u. length u ≡ n) us → Different us → Different ws → Different (products us ws)
 different_products n [] ws l a b = tt
 different_products n (u ∷ us) ws l a b =
     different_append (each_behind u ws) (products us ws) (different_behind u ws b) (different_products n us ws l.1 a.1 b) apart
   where
-    long : {x : Word} (xs : List Word) → All (λ z. length z ≡ n) xs → In x xs → length x ≡ n
+    long : {x : Word} (xs : List Word) → AllByRecursion (λ z. length z ≡ n) xs → In x xs → length x ≡ n
     long [] h m = absurd (Memᴰ.not-nil m)
     long (z ∷ xs) h m = elim (Memᴰ.cases_cons m) [ inl e ↦ ap length e ∙ h.0 | inr t ↦ long xs h.1 t ]
 

@@ -2,7 +2,7 @@
 use Rattle.std.proofs.Common.{◌≡◌, ℕ, zero, suc, ◌+◌, ◌<◌, ◌≤◌, true, false, cond, eqb, ◌⊎◌, List, [], ◌∷◌, ◌++◌, length, get_or, sym, refl, ap, subst, inl, inr, append_assoc, arith}
 use mathlib.Core.List.Memᴰ
 use mathlib.Core.List.{Memᴰ}
-use Rattle.std.specs.List.{range_with_len, ContainsAt as Has, AllByRecursion as All}
+use Rattle.std.specs.List.{range_with_len, ContainsAt as Has, AllByRecursion}
 use Rattle.std.proofs.ByRecursion.{All-append}
 use Rattle.std.proofs.lemmas.List.{append-nil}
 use Rattle.std.proofs.lemmas.Bool.{cases_Bool, cases_lt, and_parts, and_from, or_cases, or_left, or_right, eq-eqb, eqb-true, false≢true}
@@ -37,11 +37,11 @@ in_get_or (v ∷ ws) zero h = Memᴰ.head refl
 in_get_or (v ∷ ws) (suc i) h = Memᴰ.tail (in_get_or ws i (omega arith))
 
 -- what holds of each holds of one that stands there, and the other way round
-pub all_in : (P : Word → Type 0) {w : Word} (ws : List Word) → All P ws → In w ws → P w
+pub all_in : (P : Word → Type 0) {w : Word} (ws : List Word) → AllByRecursion P ws → In w ws → P w
 all_in P [] a m = absurd (Memᴰ.not-nil m)
 all_in P (v ∷ ws) a m = elim (Memᴰ.cases_cons m) [ inl e ↦ subst P (sym e) a.0 | inr t ↦ all_in P ws a.1 t ]
 
-pub in_all : (P : Word → Type 0) (ws : List Word) → ((w : Word) → In w ws → P w) → All P ws
+pub in_all : (P : Word → Type 0) (ws : List Word) → ((w : Word) → In w ws → P w) → AllByRecursion P ws
 in_all P [] h = tt
 in_all P (v ∷ ws) h = (h v (Memᴰ.head refl), in_all P ws (λ w m. h w (Memᴰ.tail m)))
 
@@ -188,27 +188,27 @@ in_suite k e {q} {w} (x ∷ u) {qs} {ws} a h l b =
     whole : ((q ++ x ∷ []) ++ u) ++ w ≡ q ++ (x ∷ (u ++ w))
     whole = simp append_assoc
 
-pub behind_keys : (k : ℕ) (v : Word) (ws : List Word) → Keys k v → All (Keys k) ws → All (Keys k) (each_behind v ws)
+pub behind_keys : (k : ℕ) (v : Word) (ws : List Word) → Keys k v → AllByRecursion (Keys k) ws → AllByRecursion (Keys k) (each_behind v ws)
 behind_keys k v [] h a = tt
 behind_keys k v (w ∷ ws) h a = (All-append (λ x. x < k) v w h a.0, behind_keys k v ws h a.1)
 
-pub products_keys : (k : ℕ) (vs ws : List Word) → All (Keys k) vs → All (Keys k) ws → All (Keys k) (products vs ws)
+pub products_keys : (k : ℕ) (vs ws : List Word) → AllByRecursion (Keys k) vs → AllByRecursion (Keys k) ws → AllByRecursion (Keys k) (products vs ws)
 products_keys k [] ws a b = tt
 products_keys k (v ∷ vs) ws a b = All-append (Keys k) (each_behind v ws) (products vs ws) (behind_keys k v ws a.0 b) (products_keys k vs ws a.1 b)
 
-pub of_length_keys : (k n : ℕ) → All (Keys k) (of_length k n)
+pub of_length_keys : (k n : ℕ) → AllByRecursion (Keys k) (of_length k n)
 of_length_keys k n = in_all (Keys k) (of_length k n) (λ w m. (of_of_length k n m).0)
 
-pub up_to_keys : (k n : ℕ) → All (Keys k) (up_to k n)
+pub up_to_keys : (k n : ℕ) → AllByRecursion (Keys k) (up_to k n)
 up_to_keys k n = in_all (Keys k) (up_to k n) (λ w m. (of_up_to k n m).0)
 
-pub with_key_keys : (k : ℕ) (qs : List Word) → All (Keys k) qs → All (Keys k) (with_key k qs)
+pub with_key_keys : (k : ℕ) (qs : List Word) → AllByRecursion (Keys k) qs → AllByRecursion (Keys k) (with_key k qs)
 with_key_keys k qs a =
     All-append (Keys k) qs (products qs (single_keys k)) a
     (products_keys k qs (single_keys k) a (in_all (Keys k) (single_keys k) (λ w m. let r = of_single k m in subst (Keys k) (sym r.2) (r.1, tt))))
 
 -- every test is a word of keys, if the words of the two lists are
-pub suite_keys : (k e : ℕ) (qs ws : List Word) → All (Keys k) qs → All (Keys k) ws → All (Keys k) (suite k e qs ws)
+pub suite_keys : (k e : ℕ) (qs ws : List Word) → AllByRecursion (Keys k) qs → AllByRecursion (Keys k) ws → AllByRecursion (Keys k) (suite k e qs ws)
 unfolding suite candidates
 suite_keys k e qs ws a b =
     let c = products_keys k (products (with_key k qs) (up_to k e)) ws (products_keys k (with_key k qs) (up_to k e) (with_key_keys k qs a) (up_to_keys k e)) b in

@@ -1,6 +1,6 @@
 -- Leaving out what can be taken apart in an earlier way keeps each test once. Assumes nothing.
 use Rattle.std.proofs.Common.{◌≡◌, ℕ, zero, suc, Bool, true, false, not, ◌||◌, List, [], ◌∷◌, ◌++◌, length, sym, refl, ap, ◌∙◌}
-use Rattle.std.specs.List.{AllByRecursion as All}
+use Rattle.std.specs.List.{AllByRecursion}
 use Rattle.std.proofs.ByRecursion.{All-weaker}
 use Rattle.std.proofs.lemmas.List.{map-append}
 use Rattle.machine.specs.Machine.{Word, Keys}
@@ -18,7 +18,7 @@ or_swap true false = refl
 or_swap false true = refl
 or_swap false false = refl
 
-module _ (k e : ℕ) (ws : List Word) (ws_keys : All (Keys k) ws) (different : Different ws) where
+module _ (k e : ℕ) (ws : List Word) (ws_keys : AllByRecursion (Keys k) ws) (different : Different ws) where
   -- the words seen are those that are made with an earlier word in front
   abbrev Seen : List Word → List Word → Type 0
   Seen seen earlier = (c : Word) → Keys k c → listed c seen ≡ some_parts (suc e) ws earlier c
@@ -48,7 +48,7 @@ module _ (k e : ℕ) (ws : List Word) (ws_keys : All (Keys k) ws) (different : D
           ∙ kept_by_same (λ c. not (listed c (before ++ seen))) (λ c. not (repeats e ws earlier v n c)) block
           (All-weaker (Keys k) (λ c. not (listed c (before ++ seen)) ≡ not (repeats e ws earlier v n c)) same_tests block (behind_keys k v (products (of_length k n) ws) h (products_keys k (of_length k n) ws (of_length_keys k n) ws_keys)))
 
-  each_front : (seen earlier vs : List Word) → All (Keys k) vs → Seen seen earlier → once_from seen (products (products vs (up_to k e)) ws) ≡ kept_from k e ws earlier vs
+  each_front : (seen earlier vs : List Word) → AllByRecursion (Keys k) vs → Seen seen earlier → once_from seen (products (products vs (up_to k e)) ws) ≡ kept_from k e ws earlier vs
   unfolding kept_from once_from
   each_front seen earlier [] h s = refl
   each_front seen earlier (v ∷ vs) h s =
@@ -68,10 +68,10 @@ module _ (k e : ℕ) (ws : List Word) (ws_keys : All (Keys k) ws) (different : D
       more c keys = listed_append c block seen ∙ ap (λ b. b || listed c seen) (found k (suc e) ws v c keys) ∙ ap (λ b. parts (suc e) ws v c || b) (s c keys) ∙ or_swap (parts (suc e) ws v c) (some_parts (suc e) ws earlier c) ∙ sym (any_push (λ p. parts (suc e) ws p c) earlier v)
 
 -- each test once, without looking at those before
-pub kept_once : (k e : ℕ) (vs ws : List Word) → All (Keys k) vs → All (Keys k) ws → Different ws → once (products (products vs (up_to k e)) ws) ≡ kept k e vs ws
+pub kept_once : (k e : ℕ) (vs ws : List Word) → AllByRecursion (Keys k) vs → AllByRecursion (Keys k) ws → Different ws → once (products (products vs (up_to k e)) ws) ≡ kept k e vs ws
 unfolding any listed
 kept_once k e vs ws all_v all_w different = each_front k e ws all_w different [] [] vs all_v (λ c _. refl)
 
-pub suite_kept : (k e : ℕ) (qs ws : List Word) → All (Keys k) qs → All (Keys k) ws → Different ws → suite k e qs ws ≡ kept k e (with_key k qs) ws
+pub suite_kept : (k e : ℕ) (qs ws : List Word) → AllByRecursion (Keys k) qs → AllByRecursion (Keys k) ws → Different ws → suite k e qs ws ≡ kept k e (with_key k qs) ws
 unfolding suite candidates
 suite_kept k e qs ws all_q all_w different = kept_once k e (with_key k qs) ws (with_key_keys k qs all_q) all_w different

@@ -1,7 +1,7 @@
 -- Words, and behind them each of them followed by each key, one word at a time. Assumes nothing.
 use Rattle.std.proofs.Common.{◌≡◌, ℕ, ◌+◌, ◌*◌, ◌<◌, ◌≤◌, List, [], ◌∷◌, ◌++◌, length, get_or, take, sym, ap, ◌∙◌, append_assoc, add-mul, mul-le-mul, one-mul, arith}
 use lib.ListN.{length-map}
-use Rattle.std.specs.List.{AllByRecursion as All}
+use Rattle.std.specs.List.{AllByRecursion}
 use Rattle.std.proofs.lemmas.List.FromFn.{map-range_with_len_more}
 use Rattle.std.proofs.ByRecursion.{All-get_or}
 use Rattle.std.proofs.lemmas.List.{append-nil, map-append, take_more, take_all}
@@ -31,7 +31,7 @@ module _ (ws : List ByValue) (i : ℕ) (x : ByValue) (inside : i < length ws) (i
       ∙ ap (λ z. front ++ (each_behind (get_or W i []) (single_keys key) ++ z ∷ [])) (last ∙ ap (λ z. z ++ key ∷ []) (sym (word_at ws i x inside is)))
       ∙ ap (λ z. front ++ z) (sym (map-append (λ w. get_or W i [] ++ w) (single_keys key) ((key ∷ []) ∷ [])) ∙ ap (each_behind (get_or W i [])) (sym (map-range_with_len_more (λ y. y ∷ []) 0 key key (omega arith))))
 
-  pub short_word : All (λ w. length w < 16) W → x.len < 16
+  pub short_word : AllByRecursion (λ w. length w < 16) W → x.len < 16
   short_word h = omega (arith, All-get_or (λ w. length w < 16) W i [] (omega (arith, length-map ws word_of)) h, ap length (word_at ws i x inside is), length_word x)
 
 -- every key stands behind the word

@@ -1,6 +1,6 @@
 -- What follows from passing the tests: statements, each proved on the contract of a function. Assumes nothing.
 use Rattle.std.specs.Prelude.{◌≡◌, ℕ, zero, suc, ◌+◌, ◌*◌, ◌^◌, ◌<◌, ◌≤◌, List, [], ◌++◌, length, slice_index_or}
-use Rattle.std.specs.List.{ContainsAt as Has, AllByRecursion as All}
+use Rattle.std.specs.List.{ContainsAt as Has, AllByRecursion}
 use Rattle.machine.specs.Machine.{Machine, Word, Keys, Proper, Equivalent}
 use Rattle.machine.specs.Row.{word_in}
 use Rattle.cover.specs.Cover.{Reaches, Separates, separating_words}
@@ -41,7 +41,7 @@ EquivalentAlwaysPasses = (k e : ℕ) (m : Machine) → EquivalentPasses k e m
 -- leaving out what can be taken apart in an earlier way keeps each test once
 abbrev pub EachTestOnce : Type 0
 EachTestOnce =
-    (k e : ℕ) (qs ws : List Word) → All (Keys k) qs → All (Keys k) ws → Different ws → suite k e qs ws ≡ kept k e (with_key k qs) ws
+    (k e : ℕ) (qs ws : List Word) → AllByRecursion (Keys k) qs → AllByRecursion (Keys k) ws → Different ws → suite k e qs ws ≡ kept k e (with_key k qs) ws
 
 -- reading back a row that begins with tests gives the tests, and each stands at its place
 abbrev pub TestsReadBack : Type 0

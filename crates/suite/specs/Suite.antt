@@ -1,6 +1,6 @@
 -- The tests, and what it is to pass them. Assumes nothing: these are definitions.
 use Rattle.std.specs.Prelude.{◌≡◌, ℕ, List, ◌++◌}
-use Rattle.std.specs.List.{AllByRecursion as All}
+use Rattle.std.specs.List.{AllByRecursion}
 use Rattle.machine.specs.Machine.{Machine, Word, outputs}
 use Rattle.machine.specs.Words.{products, single_keys, up_to, once}
 use Rattle.cover.specs.Cover.{access_words, separating_words}
@@ -23,4 +23,4 @@ tests k e m = suite k e (access_words k m) (separating_words k m)
 
 -- machine i shows on each of some words what machine m shows
 abbrev pub Passes : Machine → Machine → List Word → Type 0
-Passes m i ws = All (λ w. outputs m 0 w ≡ outputs i 0 w) ws
+Passes m i ws = AllByRecursion (λ w. outputs m 0 w ≡ outputs i 0 w) ws

@@ -1,6 +1,6 @@
 -- Tests in a row of numbers: how many, and for each how many keys and the keys. Assumes nothing: these are definitions.
 use Rattle.std.specs.Prelude.{◌≡◌, ℕ, zero, suc, ◌+◌, ◌^◌, ◌<◌, ◌≤◌, min, List, [], ◌∷◌, ◌++◌, length, take, drop, Ok, Err, Result}
-use Rattle.std.specs.List.{AllByRecursion as All}
+use Rattle.std.specs.List.{AllByRecursion}
 use Rattle.machine.specs.declared.refusals.Refusal.{Refusal}
 use Rattle.machine.specs.declared.refusals.Refusal.TheVariants.{NoRoomForTests}
 use Rattle.machine.specs.Machine.{Word, Keys}
@@ -12,9 +12,9 @@ pub record MakesTests (k e : ℕ) (qs ws : List Word) : Type 0 where
   pub few_keys : k ≤ 8
   pub few_extra : e ≤ 3
   pub few : length qs ≤ 16
-  pub short : All (λ w. length w < 16) qs
-  pub reach_keys : All (Keys k) qs
-  pub end_keys : All (Keys k) ws
+  pub short : AllByRecursion (λ w. length w < 16) qs
+  pub reach_keys : AllByRecursion (Keys k) qs
+  pub end_keys : AllByRecursion (Keys k) ws
   pub different : Different ws
 
 -- a word with its length in front

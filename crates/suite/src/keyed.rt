@@ -1,6 +1,6 @@
 // Words, and behind them each of them followed by each key.
 ghost use Rattle.std.specs.Prelude.{◌≡◌, ◌+◌, ◌<◌, ◌≤◌, [], ◌∷◌, ◌++◌, length};
-ghost use Rattle.std.specs.List.{AllByRecursion as All};
+ghost use Rattle.std.specs.List.{AllByRecursion};
 ghost use Rattle.cover.specs.Words.{word_of, words_of};
 ghost use Rattle.suite.specs.Fronts.{fronts_of};
 ghost use Rattle.suite.specs.Suite.{with_key};
@@ -44,7 +44,7 @@ fn nothing() -> Fronts
 }
 
 pub(crate) fn with_key(access: &[Word], keys: u64) -> Fronts
-    requires { (length access.now ≤ 16) × ((keys ≤ 8) × (All (λ w. length w < 16) (words_of access.now))) }
+    requires { (length access.now ≤ 16) × ((keys ≤ 8) × (AllByRecursion (λ w. length w < 16) (words_of access.now))) }
     ensures { fronts_of result ≡ with_key keys (words_of access.now) }
 {
     let mut fronts = nothing();

@@ -1,7 +1,7 @@
 -- A survivor shows the same up to its bound and something else behind it. Assumes nothing.
 use Rattle.std.proofs.Common.{◌≡◌, ℕ, zero, suc, ◌+◌, ◌*◌, ◌/◌, ◌%◌, ◌<◌, ◌≤◌, min, true, cond, ◌&&◌, eqb, List, [], ◌∷◌, length, get_or, replicate, refl, ap, ◌∙◌, inl, inr, mod-lt, zero-mul, arith}
 use lib.Arith.{digits_lt, digits_div, digits_mod}
-use Rattle.std.specs.List.{AllByRecursion as All}
+use Rattle.std.specs.List.{AllByRecursion}
 use Rattle.std.proofs.lemmas.Bool.{cases_lt, cases_eq, eq-eqb, ne_eqb}
 use Rattle.machine.specs.Machine.{Machine, Move, Word, Keys, Proper, move, outputs}
 use Rattle.machine.proofs.Runs.{no_key, move_below}
@@ -130,7 +130,7 @@ module _ (k : ℕ) (m : Machine) (longest : ℕ) (proper : Proper k m) where
       }
 
 -- what holds of every word up to a length holds of words that are no longer
-same_on_all : (m i : Machine) (ws : List Word) (longest : ℕ) → longest_of ws ≤ longest → ((w : Word) → length w ≤ longest → outputs m 0 w ≡ outputs i 0 w) → All (λ w. outputs m 0 w ≡ outputs i 0 w) ws
+same_on_all : (m i : Machine) (ws : List Word) (longest : ℕ) → longest_of ws ≤ longest → ((w : Word) → length w ≤ longest → outputs m 0 w ≡ outputs i 0 w) → AllByRecursion (λ w. outputs m 0 w ≡ outputs i 0 w) ws
 unfolding longest_of
 same_on_all m i [] longest h same = tt
 same_on_all m i (w ∷ ws) longest h same = (same w (omega arith), same_on_all m i ws longest (omega arith) same)

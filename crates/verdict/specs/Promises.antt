@@ -1,6 +1,6 @@
 -- What a verdict means: statements, each proved on the contract of a function. Assumes nothing.
 use Rattle.std.specs.Prelude.{◌≡◌, ℕ, ◌+◌, ◌≤◌, List, ◌++◌, length}
-use Rattle.std.specs.List.{ContainsAt as Has, AllByRecursion as All}
+use Rattle.std.specs.List.{ContainsAt as Has, AllByRecursion}
 use Rattle.machine.specs.Machine.{Machine, Word, Proper, Equivalent}
 use Rattle.suite.specs.Suite.{tests, Passes}
 use Rattle.verdict.specs.declared.verdicts.Verdict.{Verdict}
@@ -21,4 +21,4 @@ Begins w v = (u : Word) × (v ≡ w ++ u)
 -- whoever passes tests passes their beginnings
 abbrev pub BeginningsPass : Type 0
 BeginningsPass =
-    (m i : Machine) (ws vs : List Word) → All (λ w. (v : Word) × Has vs v × Begins w v) ws → Passes m i vs → Passes m i ws
+    (m i : Machine) (ws vs : List Word) → AllByRecursion (λ w. (v : Word) × Has vs v × Begins w v) ws → Passes m i vs → Passes m i ws
