@@ -1,5 +1,5 @@
 -- Judging what was shown on some tests, one after the other. Assumes nothing: these are definitions.
-use Rattle.std.specs.Prelude.{ℕ, suc, ◌+◌, ltb, List, [], ◌∷◌, length, take, drop, is_some, Some, None, Option, nat_lt, slice_index, slice_index_or}
+use Rattle.std.specs.Prelude.{ℕ, suc, ◌+◌, List, [], ◌∷◌, length, take, drop, is_some, Some, None, Option, nat_lt, slice_index, slice_index_or}
 use Rattle.std.specs.List.{flat_map}
 use Rattle.machine.specs.declared.running.Difference.{Difference}
 use Rattle.machine.specs.First.{first, or_else}
@@ -42,7 +42,7 @@ verdict_of m ts shown = first_failed m ts shown (first (λ i. is_some (differenc
 
 -- the first test of which not all was shown
 unfoldable pub cut_short : List Word → ℕ → Option ℕ
-cut_short ts n = first (λ i. ltb n (begins_at ts (suc i))) (length ts)
+cut_short ts n = first (λ i. nat_lt n (begins_at ts (suc i))) (length ts)
 
 -- the reason for refusing what is cut short in a test
 abbrev pub in_test : Option ℕ → Option Reason
