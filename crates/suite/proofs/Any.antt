@@ -11,6 +11,7 @@ use Rattle.suite.proofs.Members.{In, in_get_or}
 use Rattle.suite.proofs.Places.{word_at}
 
 module _ (f : Word → Bool) where
+  -- if one of some words passes, there is a word among them that does
   pub any_true : (ws : List Word) → any f ws ≡ true → (w : Word) × In w ws × (f w ≡ true)
   unfolding any
   any_true [] h = absurd (false≢true h)
@@ -19,6 +20,7 @@ module _ (f : Word → Bool) where
     | inr b ↦ let r = any_true ws b in (r.0, Memᴰ.tail r.1, r.2)
   ]
 
+  -- and the other way round
   pub any_from : (ws : List Word) (w : Word) → In w ws → f w ≡ true → any f ws ≡ true
   unfolding any
   any_from [] w m h = absurd (Memᴰ.not-nil m)
@@ -31,11 +33,13 @@ module _ (f : Word → Bool) where
   pub any_at : (ws : List Word) (i : ℕ) → i < length ws → f (get_or ws i []) ≡ true → any f ws ≡ true
   any_at ws i l h = any_from ws (get_or ws i []) (in_get_or ws i l) h
 
+  -- if the word at no place passes, none does
   pub any_none : (ws : List Word) → ((i : ℕ) → i < length ws → f (get_or ws i []) ≡ false) → any f ws ≡ false
   unfolding any
   any_none [] h = refl
   any_none (w ∷ ws) h = or_from (f w) (any f ws) (h 0 (omega arith)) (any_none ws (λ i l. h (suc i) (omega arith)))
 
+  -- with one word more at the end: one of those before passes, or it does
   pub any_push : (ws : List Word) (w : Word) → any f (ws ++ w ∷ []) ≡ (any f ws || f w)
   unfolding any
   any_push [] w = last (f w)
@@ -51,14 +55,18 @@ module _ (f : Word → Bool) where
 
 -- a search through words by value
 module _ (f : List ℕ → Bool) (ws : List ByValue) (i : ℕ) where
+  -- none of the first n words passes
   abbrev NoneBefore : ℕ → Type 0
   NoneBefore n = (j : ℕ) → j < n → f (get_or (words_of ws) j []) ≡ false
 
+  -- if the word at place i does not pass either, none of the first i + 1 does
   pub search_more : (x : ByValue) → i < length ws → x ≡ get_or ws i x → false ≡ f (word_of x) → NoneBefore i → NoneBefore (i + 1)
   search_more x l e h none j g = elim (cases_lt j i) [ inl b ↦ none j b | inr b ↦ let same : j ≡ i = omega arith in rw (same, word_at ws i x l e) (sym h) ]
 
+  -- if the word at place i passes, one of the words does
   pub search_found : (x : ByValue) → i < length ws → x ≡ get_or ws i x → true ≡ f (word_of x) → true ≡ any f (words_of ws)
   search_found x l e h = sym (any_at f (words_of ws) i (omega (arith, length-map ws word_of)) (rw (word_at ws i x l e) (sym h)))
 
+  -- if no word is left to look at and none passed, none of the words does
   pub search_none : length ws ≤ i → NoneBefore i → false ≡ any f (words_of ws)
   search_none l none = sym (any_none f (words_of ws) (λ j h. none j (omega (arith, length-map ws word_of))))

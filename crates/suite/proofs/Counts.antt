@@ -10,17 +10,20 @@ use Rattle.cover.specs.Cover.{first_reaching, access_words, separating_words}
 use Rattle.suite.specs.Promises.{words_up_to, FewTests}
 use Rattle.suite.specs.Suite.{with_key, candidates, suite, tests}
 
+-- each of some words followed by each of others: as many as the two numbers multiplied
 length_products : (vs ws : List Word) → length (products vs ws) ≡ length vs * length ws
 length_products [] ws = sym (zero-mul (length ws))
 length_products (v ∷ vs) ws =
     length-append (each_behind v ws) (products vs ws) ∙ ap (λ n. n + length (products vs ws)) (length-map ws (λ w. v ++ w)) ∙ ap (λ n. length ws + n) (length_products vs ws)
     ∙ omega (arith, suc-mul (length vs) (length ws))
 
+-- there are k ^ n words of n keys
 length_of_length : (k n : ℕ) → length (of_length k n) ≡ k ^ n
 unfolding of_length
 length_of_length k zero = sym (pow-zero k)
 length_of_length k (suc n) = length_products (single_keys k) (of_length k n) ∙ ap (λ j. j * length (of_length k n)) (length-map-range_with_len (λ x. x ∷ []) 0 k) ∙ ap (λ j. k * j) (length_of_length k n) ∙ sym (pow-succ' k n)
 
+-- how many words of at most e keys there are, counted length by length
 pub length_up_to : (k e : ℕ) → length (up_to k e) ≡ words_up_to k e
 unfolding up_to words_up_to
 length_up_to k zero = refl
@@ -44,6 +47,7 @@ few_tests_of k e qs ws = subst (λ n. length (once (products (products (with_key
     all : length (products (products (with_key k qs) (up_to k e)) ws) ≡ length qs * (1 + k) * words_up_to k e * length ws
     all = length_products (products (with_key k qs) (up_to k e)) ws ∙ ap (λ n. n * length ws) (length_products (with_key k qs) (up_to k e) ∙ ap (λ n. n * length (up_to k e)) keyed ∙ ap (λ n. length qs * (1 + k) * n) (length_up_to k e))
 
+-- the same for the tests of a machine, which has one word that reaches for each state
 pub few_tests : FewTests
 unfolding tests access_words
 few_tests k e m =
@@ -59,6 +63,7 @@ words_low k (suc (suc zero)) hk he = let a = pow-le-pow_left hk 1 in let b = pow
 words_low k (suc (suc (suc zero))) hk he = let a = pow-le-pow_left hk 1 in let b = pow-le-pow_left hk 2 in let c = pow-le-pow_left hk 3 in omega arith
 words_low k (suc (suc (suc (suc e)))) hk he = absurd (omega arith)
 
+-- within the limits on keys, extra states and words there are at most 10,108,800 tests
 pub tests_low : (k e : ℕ) (qs ws : List Word) → k ≤ 8 → e ≤ 3 → length qs ≤ 16 → length ws ≤ 120 → length (suite k e qs ws) ≤ 10108800
 tests_low k e qs ws hk he hq hw =
     let keys : 1 + k ≤ 9 = omega arith in

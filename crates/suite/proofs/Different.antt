@@ -59,6 +59,7 @@ once_from_append seen (u ∷ us) vs = elim (cases_Bool (listed u seen)) [
         swap true false d = refl
         swap false b d = refl
 
+-- two tests that agree on each word of a list keep the same words of it
 pub kept_by_same : (f g : Word → Bool) (ws : List Word) → AllByRecursion (λ w. f w ≡ g w) ws → filter f ws ≡ filter g ws
 kept_by_same f g [] h = refl
 kept_by_same f g (w ∷ ws) h = rw (h.0, kept_by_same f g ws h.1)
@@ -102,6 +103,7 @@ different_once_from seen (w ∷ ws) = elim (cases_Bool (listed w seen)) [
 pub different_once : (ws : List Word) → Different (once ws)
 different_once ws = (different_once_from [] ws).0
 
+-- two lists in which no word stands twice and that share none, one behind the other
 pub different_append : (us vs : List Word) → Different us → Different vs → ((w : Word) → In w us → In w vs → ⊥) → Different (us ++ vs)
 different_append [] vs a b h = b
 different_append (u ∷ us) vs a b h = (
@@ -109,6 +111,7 @@ different_append (u ∷ us) vs a b h = (
   different_append us vs a.1 b (λ w i j. h w (Memᴰ.tail i) j),
 )
 
+-- one word put in front of each word of such a list
 pub different_behind : (v : Word) (ws : List Word) → Different ws → Different (each_behind v ws)
 different_behind v [] d = tt
 different_behind v (w ∷ ws) d = (

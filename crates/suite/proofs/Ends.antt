@@ -43,10 +43,12 @@ module _ (a : Against) (front : Candidate) (x : ByValue) where
 
   module _ {S : Type 0} (step : S → Word → S → Type 0) (i : ℕ) (inside : i < length a.ends.now) (is : x ≡ get_or a.ends.now i x) (s t : S)
       (fed : Fed step (fresh_of a f (take i ends)) s t) where
+    -- if f with this end has come up before, nothing more is handed on for it
     pub skipped : true ≡ repeats a.extra ends earlier (take a.own f) a.between (f ++ word_of x) → Fed step (fresh_of a f (take (i + 1) ends)) s t
     skipped h =
         fed_same step (fresh_of a f (take i ends)) (fresh_of a f (take (i + 1) ends)) s t (fresh_repeated a.extra ends earlier a.own a.between f a.ends.now i x inside is (sym h)) fed
 
+    -- if it has not, it is handed on as well
     pub handed_on : (r : S) (c : Word) → false ≡ repeats a.extra ends earlier (take a.own f) a.between (f ++ word_of x) → c ≡ f ++ word_of x → step t c r → Fed step (fresh_of a f (take (i + 1) ends)) s r
     handed_on r c h e one =
         fed_same step (fresh_of a f (take i ends) ++ (f ++ word_of x) ∷ []) (fresh_of a f (take (i + 1) ends)) s r

@@ -30,12 +30,14 @@ first_telling_keys k m t s [] h = tt
 first_telling_keys k m t s (w ∷ ws) h =
     cond_both (same (outputs m t w) (outputs m s w)) (first_telling m t s ws) w (Keys k) (λ _. first_telling_keys k m t s ws h.1) (λ _. h.0)
 
+-- the words found are words of keys
 pub access_words_keys : (k : ℕ) (m : Machine) → AllByRecursion (Keys k) (access_words k m)
 unfolding access_words
 access_words_keys k m =
     All-map (Keys k) (λ s. first_reaching m s (up_to k (length m))) (range_with_len 0 (length m))
     (all_every (λ s. first_reaching_keys k m s (up_to k (length m)) (up_to_keys k (length m))) (range_with_len 0 (length m)))
 
+-- and so are those that tell apart
 pub separating_words_keys : (k : ℕ) (m : Machine) → AllByRecursion (Keys k) (separating_words k m)
 unfolding separating_words telling_words
 separating_words_keys k m =
@@ -52,6 +54,7 @@ pub equivalent_passes_suite : (k e : ℕ) (m i : Machine) (qs ws : List Word) �
 equivalent_passes_suite k e m i qs ws all_q all_w same_outputs =
     All-weaker (Keys k) (λ w. outputs m 0 w ≡ outputs i 0 w) same_outputs (suite k e qs ws) (suite_keys k e qs ws all_q all_w)
 
+-- whatever is equivalent to a machine passes its tests
 pub equivalent_passes : (k e : ℕ) (m : Machine) → EquivalentPasses k e m
 unfolding tests
 equivalent_passes k e m i same_outputs =
@@ -69,6 +72,7 @@ suite_more k d e qs ws w h m = in_once _ (longer (of_products (products (with_ke
     longer : Parts (products (with_key k qs) (up_to k d)) ws w → In w (products (products (with_key k qs) (up_to k e)) ws)
     longer r = subst (λ z. In z (products (products (with_key k qs) (up_to k e)) ws)) (sym r.whole) (in_products (front (of_products (with_key k qs) (up_to k d) r.front_in)) r.behind_in)
 
+-- the tests of a machine for fewer extra states are among those for more
 pub more_extra_more_tests : MoreExtraMoreTests
 unfolding tests
 more_extra_more_tests k d e m w h i =

@@ -50,6 +50,7 @@ between_more k e ws earlier v f own j same long =
     let whole : take own f ≡ v = ap (take own) same ∙ take_all own v (omega arith) in
     rw (one, whole, same)
 
+-- one word in front more, at the end of a list: its tests come behind those of the others
 kept_from_push : (k e : ℕ) (ws earlier vs : List Word) (v : Word) → kept_from k e ws earlier vs ++ kept_behind k e ws (earlier ++ vs) v (suc e) ≡ kept_from k e ws earlier (vs ++ v ∷ [])
 unfolding kept_from
 kept_from_push k e ws earlier [] v = ap (λ z. kept_behind k e ws z v (suc e)) (append-nil earlier) ∙ sym (append-nil (kept_behind k e ws earlier v (suc e)))

@@ -188,20 +188,25 @@ in_suite k e {q} {w} (x ∷ u) {qs} {ws} a h l b =
     whole : ((q ++ x ∷ []) ++ u) ++ w ≡ q ++ (x ∷ (u ++ w))
     whole = simp append_assoc
 
+-- words of keys with a word of keys in front are words of keys
 pub behind_keys : (k : ℕ) (v : Word) (ws : List Word) → Keys k v → AllByRecursion (Keys k) ws → AllByRecursion (Keys k) (each_behind v ws)
 behind_keys k v [] h a = tt
 behind_keys k v (w ∷ ws) h a = (All-append (λ x. x < k) v w h a.0, behind_keys k v ws h a.1)
 
+-- so are words of keys with words of keys behind them
 pub products_keys : (k : ℕ) (vs ws : List Word) → AllByRecursion (Keys k) vs → AllByRecursion (Keys k) ws → AllByRecursion (Keys k) (products vs ws)
 products_keys k [] ws a b = tt
 products_keys k (v ∷ vs) ws a b = All-append (Keys k) (each_behind v ws) (products vs ws) (behind_keys k v ws a.0 b) (products_keys k vs ws a.1 b)
 
+-- so are all words of n keys
 pub of_length_keys : (k n : ℕ) → AllByRecursion (Keys k) (of_length k n)
 of_length_keys k n = in_all (Keys k) (of_length k n) (λ w m. (of_of_length k n m).0)
 
+-- so are all words of at most n keys
 pub up_to_keys : (k n : ℕ) → AllByRecursion (Keys k) (up_to k n)
 up_to_keys k n = in_all (Keys k) (up_to k n) (λ w m. (of_up_to k n m).0)
 
+-- so are words of keys, and each of them followed by one key
 pub with_key_keys : (k : ℕ) (qs : List Word) → AllByRecursion (Keys k) qs → AllByRecursion (Keys k) (with_key k qs)
 with_key_keys k qs a =
     All-append (Keys k) qs (products qs (single_keys k)) a

@@ -48,6 +48,7 @@ module _ (k e : ℕ) (ws : List Word) (ws_keys : AllByRecursion (Keys k) ws) (di
           ∙ kept_by_same (λ c. not (listed c (before ++ seen))) (λ c. not (repeats e ws earlier v n c)) block
           (All-weaker (Keys k) (λ c. not (listed c (before ++ seen)) ≡ not (repeats e ws earlier v n c)) same_tests block (behind_keys k v (products (of_length k n) ws) h (products_keys k (of_length k n) ws (of_length_keys k n) ws_keys)))
 
+  -- with each of some words in front and at most e keys behind it
   each_front : (seen earlier vs : List Word) → AllByRecursion (Keys k) vs → Seen seen earlier → once_from seen (products (products vs (up_to k e)) ws) ≡ kept_from k e ws earlier vs
   unfolding kept_from once_from
   each_front seen earlier [] h s = refl
@@ -72,6 +73,7 @@ pub kept_once : (k e : ℕ) (vs ws : List Word) → AllByRecursion (Keys k) vs �
 unfolding any listed
 kept_once k e vs ws all_v all_w different = each_front k e ws all_w different [] [] vs all_v (λ c _. refl)
 
+-- so for a suite: in front are the words that reach, and each of them followed by one key
 pub suite_kept : (k e : ℕ) (qs ws : List Word) → AllByRecursion (Keys k) qs → AllByRecursion (Keys k) ws → Different ws → suite k e qs ws ≡ kept k e (with_key k qs) ws
 unfolding suite candidates
 suite_kept k e qs ws all_q all_w different = kept_once k e (with_key k qs) ws (with_key_keys k qs all_q) all_w different

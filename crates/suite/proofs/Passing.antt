@@ -48,6 +48,7 @@ module _ (k e : ℕ) (m i : Machine) (qs ws : List Word) (pm : Proper k m) (pi :
   abbrev Near : ℕ → Type 0
   Near s = (p : Word) × (w : Word) × In p qs × Keys k w × (length w ≤ e) × (s ≡ after i 0 (p ++ w))
 
+  -- behind a word that reaches, e + 1 keys lead to a state that such a word and at most e keys lead to
   shorter : (q u : Word) → In q qs → Keys k u → length u ≡ suc e → Near (after i 0 (q ++ u))
   shorter q u a h l = elim (pigeonhole_two (length m) e (λ s. after i 0 (choice s).0) (λ j. after i 0 (q ++ take (suc j) u)) (λ s _. low (choice s).0) (λ j _. low (q ++ take (suc j) u)) ways_apart) [
     | inl c ↦ let b = (choice c.0).1 c.2 in let j = c.1 in let most = c.3 in (
@@ -75,6 +76,7 @@ module _ (k e : ℕ) (m i : Machine) (qs ws : List Word) (pm : Proper k m) (pi :
       split : (j : ℕ) → after i 0 (q ++ u) ≡ after i (after i 0 (q ++ take j u)) (drop j u)
       split j = ap (λ z. after i 0 (q ++ z)) (sym (take-append-drop j u)) ∙ ap (after i 0) (sym (append_assoc q (take j u) (drop j u))) ∙ after_append i 0 (q ++ take j u) (drop j u)
 
+  -- the same for at most e + 1 keys
   near : (q u : Word) → In q qs → Keys k u → length u ≤ suc e → Near (after i 0 (q ++ u))
   near q u a h l = elim (cases_lt (length u) (suc e)) [
     | inl g ↦ (q, u, a, h, omega arith, refl)
@@ -118,9 +120,11 @@ module _ (k e : ℕ) (m i : Machine) (qs ws : List Word) (pm : Proper k m) (pi :
       both : {a b : ℕ} {c d : List ℕ} → a ≡ b → c ≡ d → a ∷ c ≡ b ∷ d
       both p r = cc
 
+  -- both machines show the same on every word of keys
   equivalent : Equivalent k m i
   unfolding after
   equivalent v h = let b = reach.begins in alike_behind v [] [] h (Memᴰ.cast (sym b.2) (in_get_or qs b.0 b.1)) tt (omega arith)
 
+-- so for all machines, words that reach, and words that tell apart
 pub passing_suite_is_equivalent : PassingSuiteIsEquivalent
 passing_suite_is_equivalent k e m i qs ws pm pi few reach sep passes = equivalent k e m i qs ws pm pi few reach sep passes

@@ -11,17 +11,21 @@ use Rattle.suite.proofs.Different.{same_tests}
 use Rattle.suite.proofs.Members.{In, same_true, eq_same}
 use Rattle.suite.proofs.TakenApart.{Ends, ends_true, ends_from}
 
+-- if c begins with p, its first keys are p
 begins_true : (p c : Word) → begins p c ≡ true → p ≡ take (length p) c
 unfolding begins
 begins_true p c h = same_true p (take (length p) c) h
 
+-- and the other way round
 begins_from : (p c : Word) → p ≡ take (length p) c → begins p c ≡ true
 unfolding begins
 begins_from p c e = eq_same p (take (length p) c) e
 
+-- one of n places from a on is not before a, and before a + n
 within_true : (a n m : ℕ) → within a n m ≡ true → (a ≤ m) × (m < a + n)
 within_true a n m h = let r = and_parts (leb a m) (ltb m (a + n)) h in (leb-true a m r.0, ltb-true m (a + n) r.1)
 
+-- and the other way round
 within_from : (a n m : ℕ) → a ≤ m → m < a + n → within a n m ≡ true
 within_from a n m l g = and_from (leb a m) (ltb m (a + n)) (le-leb a m l) (lt-ltb m (a + n) g)
 
@@ -33,10 +37,12 @@ parts_true n ws p c h =
     let s = any_true (λ z. ends (length p) n z c) ws r.1 in
     (begins_true p c r.0, (s.0, s.1, ends_true (length p) n s.0 c s.2))
 
+-- and the other way round
 parts_from : (n : ℕ) (ws : List Word) (p c w : Word) → p ≡ take (length p) c → In w ws → Ends (length p) n w c → parts n ws p c ≡ true
 unfolding parts
 parts_from n ws p c w b i r = and_from (begins p c) (some_end (length p) n ws c) (begins_from p c b) (any_from (λ z. ends (length p) n z c) ws w i (ends_from (length p) n w c r))
 
+-- if p marks place m, f begins with p and the place is fewer than n keys behind it
 marks_true : (n : ℕ) (f : Word) (m : ℕ) (p : Word) → marks n f m p ≡ true → (p ≡ take (length p) f) × (length p ≤ m) × (m < length p + n)
 unfolding marks
 marks_true n f m p h =
@@ -44,6 +50,7 @@ marks_true n f m p h =
     let s = within_true (length p) n m r.1 in
     (begins_true p f r.0, s.0, s.1)
 
+-- and the other way round
 marks_from : (n : ℕ) (f : Word) (m : ℕ) (p : Word) → p ≡ take (length p) f → length p ≤ m → m < length p + n → marks n f m p ≡ true
 unfolding marks
 marks_from n f m p e l g = and_from (begins p f) (within (length p) n m) (begins_from p f e) (within_from (length p) n m l g)
@@ -52,6 +59,7 @@ longer_from : (f p : Word) → length f < length p → f ≡ take (length f) p �
 unfolding longer
 longer_from f p l e = and_from (ltb (length f) (length p)) (begins f p) (lt-ltb (length f) (length p) l) (begins_from f p e)
 
+-- if c ends with z at a marked place: z is no longer than c, its place has a mark, and c ends with it
 ends_marked_true : (at : List Bool) (c z : Word) → ends_marked at c z ≡ true → (length z ≤ length c) × (get_or at (length c - length z) false ≡ true) × (z ≡ drop (length c - length z) c)
 unfolding ends_marked
 ends_marked_true at c z h =
@@ -59,6 +67,7 @@ ends_marked_true at c z h =
     let s = and_parts (get_or at (length c - length z) false) (same z (drop (length c - length z) c)) r.1 in
     (leb-true (length z) (length c) r.0, s.0, same_true z (drop (length c - length z) c) s.1)
 
+-- and the other way round
 ends_marked_from : (at : List Bool) (c z : Word) → length z ≤ length c → get_or at (length c - length z) false ≡ true → z ≡ drop (length c - length z) c → ends_marked at c z ≡ true
 unfolding ends_marked
 ends_marked_from at c z l y e = and_from (leb (length z) (length c)) _ (le-leb (length z) (length c) l) (and_from (get_or at (length c - length z) false) (same z (drop (length c - length z) c)) y (eq_same z (drop (length c - length z) c) e))
@@ -70,9 +79,11 @@ module _ (e j own : ℕ) (ws earlier : List Word) (f w : Word) (at : List Bool) 
   abbrev c : Word
   c = f ++ w
 
+  -- the word in front
   abbrev v : Word
   v = take own f
 
+  -- it has `own` keys
   long_v : length v ≡ own
   long_v = omega (arith, length-take own f)
 
@@ -80,9 +91,11 @@ module _ (e j own : ℕ) (ws earlier : List Word) (f w : Word) (at : List Bool) 
   front : (p : Word) → p ≡ take (length p) f → p ≡ take (length p) c
   front p h = h ∙ sym (take-append-le (length p) f w (omega (arith, ap length h, length-take (length p) f)))
 
+  -- c begins with the word in front
   own_front : v ≡ take (length v) c
   own_front = front v (ap (λ n. take n f) (sym long_v))
 
+  -- if one of the words stands at the end of c and starts at a marked place, c has come up before
   at_marked : (z : Word) → In z ws → length z ≤ length c → z ≡ drop (length c - length z) c → marked e earlier own j f (length c - length z) ≡ true → repeats e ws earlier v j c ≡ true
   unfolding marked repeats
   at_marked z i h g y =
@@ -104,6 +117,7 @@ module _ (e j own : ℕ) (ws earlier : List Word) (f w : Word) (at : List Bool) 
               let b = t.2 in
               parts_from (suc e) ws p c z (front p t.0) i (record { room = omega arith; close = omega arith; end = g })
 
+  -- if c ends with one of the words at a place with a mark, c has come up before
   marked_repeats : any (ends_marked at c) ws ≡ true → repeats e ws earlier v j c ≡ true
   marked_repeats h = ends_there (any_true (ends_marked at c) ws h)
     where
@@ -116,6 +130,7 @@ module _ (e j own : ℕ) (ws earlier : List Word) (f w : Word) (at : List Bool) 
   ends_here : (z : Word) → In z ws → length z ≤ length c → z ≡ drop (length c - length z) c → marked e earlier own j f (length c - length z) ≡ true → any (ends_marked at c) ws ≡ true
   ends_here z i h g y = any_from (ends_marked at c) ws z i (ends_marked_from at c z h (places (length c - length z) (omega arith) ∙ y) g)
 
+  -- if c has come up before, a mark shows it, or an earlier word does and one goes on from f
   repeats_marked : repeats e ws earlier v j c ≡ true → (any (ends_marked at c) ws || (l && some_parts (suc e) ws earlier c)) ≡ true
   unfolding repeats marked
   repeats_marked h =
@@ -146,6 +161,7 @@ module _ (e j own : ℕ) (ws earlier : List Word) (f w : Word) (at : List Bool) 
             | inr y ↦ or_right (any (ends_marked at c) ws) (l && some_parts (suc e) ws earlier c) (and_from l (some_parts (suc e) ws earlier c) (long ∙ y) a)
           ]
 
+  -- so the marks, and the earlier words if one goes on from f, tell whether c has come up before
   pub repeats_found : (any (ends_marked at c) ws || (l && some_parts (suc e) ws earlier c)) ≡ repeats e ws earlier v j c
   unfolding repeats
   repeats_found = same_tests (any (ends_marked at c) ws || (l && some_parts (suc e) ws earlier c)) (repeats e ws earlier v j c)

@@ -6,6 +6,7 @@ use Rattle.std.proofs.lemmas.List.{take-append-drop, take_more, take_more_set, t
 abbrev pub splice : List ℕ → ℕ → List ℕ → ℕ → List ℕ
 splice row p w i = take p row ++ (take i w ++ drop (p + i) row)
 
+-- as long as nothing of the word is written the row is as it was
 pub splice_none : (row w : List ℕ) (p : ℕ) → row ≡ splice row p w 0
 splice_none row w p = let z : p + 0 ≡ p = omega arith in sym (ap (λ n. take p row ++ drop n row) z ∙ take-append-drop p row)
 

@@ -16,28 +16,34 @@ unfoldable pub below : ℕ → ℕ → List Word
 below k zero = []
 below k (suc n) = below k n ++ of_length k n
 
+-- the words of at most e keys are those of fewer than e + 1
 pub up_to_below : (k e : ℕ) → up_to k e ≡ below k (suc e)
 unfolding up_to of_length below
 up_to_below k zero = refl
 up_to_below k (suc e) = ap (λ z. z ++ of_length k (suc e)) (up_to_below k e)
 
+-- every word of fewer than n keys is among them
 in_below : (k n : ℕ) (u : Word) → Keys k u → length u < n → In u (below k n)
 in_below k zero u h l = absurd (omega arith)
 in_below k (suc n) u h l = subst (λ z. In u z) (up_to_below k n) (in_up_to k n u h (omega arith))
 
+-- and the other way round
 of_below : (k n : ℕ) {u : Word} → In u (below k n) → Keys k u × (length u < n)
 unfolding below
 of_below k zero m = absurd (Memᴰ.not-nil m)
 of_below k (suc n) {u} m = let r = of_up_to k n (subst (λ z. In u z) (sym (up_to_below k n)) m) in (r.0, let l = r.1 in omega arith)
 
+-- two lists in front: what is made with the first, then what is made with the second
 pub products_append : (us vs ws : List Word) → products (us ++ vs) ws ≡ products us ws ++ products vs ws
 products_append [] vs ws = refl
 products_append (u ∷ us) vs ws = rw (products_append us vs ws) (sym (append_assoc (each_behind u ws) (products us ws) (products vs ws)))
 
+-- putting two words in front is putting the second in front, then the first
 pub each_behind_append : (u v : Word) (ws : List Word) → each_behind (u ++ v) ws ≡ each_behind u (each_behind v ws)
 each_behind_append u v [] = refl
 each_behind_append u v (w ∷ ws) = rw (append_assoc u v w, each_behind_append u v ws)
 
+-- it is the same to put v in front before or after some words are put behind
 pub products_behind : (v : Word) (us ws : List Word) → products (each_behind v us) ws ≡ each_behind v (products us ws)
 products_behind v [] ws = refl
 products_behind v (u ∷ us) ws =
@@ -49,6 +55,7 @@ pub record Ends (m n : ℕ) (w c : Word) : Type 0 where
   pub close : length c < m + length w + n
   pub end : w ≡ drop (length c - length w) c
 
+-- if the test of it passes, c ends so
 pub ends_true : (m n : ℕ) (w c : Word) → ends m n w c ≡ true → Ends m n w c
 unfolding ends
 ends_true m n w c h =
@@ -56,12 +63,14 @@ ends_true m n w c h =
     let b = and_parts (ltb (length c) (m + length w + n)) (same w (drop (length c - length w) c)) a.1 in
     record { room = leb-true _ _ a.0; close = ltb-true _ _ b.0; end = same_true _ _ b.1 }
 
+-- and the other way round
 pub ends_from : (m n : ℕ) (w c : Word) → Ends m n w c → ends m n w c ≡ true
 unfolding ends
 ends_from m n w c r = and_from _ _ (le-leb _ _ r.room) (and_from _ _ (lt-ltb _ _ r.close) (eq_same _ _ r.end))
 
 -- whether c is v, fewer than n keys and one of some words can be read off c
 module _ (k n : ℕ) (ws : List Word) (v c : Word) (keys : Keys k c) where
+  -- if c is made so, this can be read off c
   made : Parts (each_behind v (below k n)) ws c → parts n ws v c ≡ true
   unfolding parts begins
   made r = and_from (same v (take (length v) c)) (some_end (length v) n ws c) (eq_same v (take (length v) c) front) (any_from (λ z. ends (length v) n z c) ws w r.behind_in (ends_from (length v) n w c (record { room = omega (arith, long); close = let l = (of_below k n s.1).1 in omega (arith, long); end = back })))
@@ -84,6 +93,7 @@ module _ (k n : ℕ) (ws : List Word) (v c : Word) (keys : Keys k c) where
       back : w ≡ drop (length c - length w) c
       back = sym (drop_at (v ++ s.0) w (length c - length w) (omega (arith, long, length-append v s.0))) ∙ ap (drop (length c - length w)) (append_assoc v s.0 w ∙ sym whole)
 
+  -- and the other way round: c is then one of the words that are made so
   apart : parts n ws v c ≡ true → In c (products (each_behind v (below k n)) ws)
   unfolding parts begins
   apart h = Memᴰ.cast (whole) (in_products (Memᴰ.map (λ z. v ++ z) (in_below k n u (All-take (λ x. x < k) (length r - length w) r (All-drop (λ x. x < k) (length v) c keys)) (omega (arith, long, room, close, length-take (length r - length w) r)))) b.1)
@@ -119,5 +129,6 @@ module _ (k n : ℕ) (ws : List Word) (v c : Word) (keys : Keys k c) where
       whole =
           sym (take-append-drop (length v) c) ∙ ap (λ z. z ++ r) (sym (same_true v (take (length v) c) a.0)) ∙ ap (λ z. v ++ z) (sym (take-append-drop (length r - length w) r) ∙ ap (λ z. u ++ z) behind) ∙ sym (append_assoc v u w)
 
+  -- so c is listed among them exactly if it can be read off c
   pub found : listed c (products (each_behind v (below k n)) ws) ≡ parts n ws v c
   found = same_tests (listed c (products (each_behind v (below k n)) ws)) (parts n ws v c) (λ h. made (of_products (each_behind v (below k n)) ws (listed_in (products (each_behind v (below k n)) ws) h))) (λ h. in_listed (products (each_behind v (below k n)) ws) (apart h))

@@ -67,21 +67,27 @@ module _ (c : Cover) where
 -- the cover of a view, with its number of keys
 module _ (v : View) (e keys : ℕ) (c : Cover) (same : keys ≡ keys_of v)
     (access : access_of c ≡ access_words (keys_of v) (model v)) (separating : separating_of c ≡ separating_words (keys_of v) (model v)) where
+  -- the words of the cover that reach
   abbrev qs : List Word
   qs = words_of (take (c.states - 0) c.access)
 
+  -- the words of the cover that tell apart
   abbrev ws : List Word
   ws = words_of (take (c.count - 0) c.separating)
 
+  -- those that reach are the access words of the machine
   qs_is : qs ≡ access_words (keys_of v) (model v)
   qs_is = access_part c ∙ access
 
+  -- those that tell apart are its separating words
   ws_is : ws ≡ separating_words (keys_of v) (model v)
   ws_is = separating_part c ∙ separating
 
+  -- if the machine is minimal and there are at most three extra states, they make tests
   pub cover_makes : Minimal (keys_of v) (model v) → e ≤ 3 → MakesTests keys e (words_of (take (c.states - 0) c.access)) (words_of (take (c.count - 0) c.separating))
   cover_makes minimal few_extra = rw (same, qs_is, ws_is) (view_makes v e minimal few_extra)
 
+  -- the tests that they make are the tests of the machine
   pub cover_suite : suite keys e (words_of (take (c.states - 0) c.access)) (words_of (take (c.count - 0) c.separating)) ≡ tests (keys_of v) e (model v)
   unfolding tests
   cover_suite = ap (λ z. suite z e qs ws) same ∙ ap (λ z. suite (keys_of v) e z ws) qs_is ∙ ap (suite (keys_of v) e (access_words (keys_of v) (model v))) ws_is
@@ -97,6 +103,7 @@ tests_follow k e m proper minimal = record {
 }
 
 module _ (row : List ℕ) (e : ℕ) (before : List ℕ) (testable : Testable row e) where
+  -- if the tests of a testable row were written, or there was no room for them, the answer is right
   pub answered : (r : Result ℕ Refusal) (after : List ℕ) → TestsWritten (made row e) before r after → TestsAnswered row e before r after
   answered (Ok n) after w =
       let ts = made row e in

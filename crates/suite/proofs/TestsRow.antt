@@ -27,6 +27,7 @@ unfolding words_out room_for
 length_words_out [] = refl
 length_words_out (w ∷ ts) = omega (arith, length-append (word_out w) (words_out ts), length_words_out ts)
 
+-- counting some tests: as many tests more and as many numbers as they take, but not more than 2^62
 pub tallied : (ts : List Word) (s t : Tally) → s.tests ≤ 2 ^ 62 → s.numbers ≤ 2 ^ 62 → Fed Tallied ts s t →
     (t.tests ≡ min (s.tests + length ts) (2 ^ 62)) × (t.numbers ≡ min (s.numbers + room_for ts) (2 ^ 62))
 unfolding Fed room_for
@@ -135,6 +136,7 @@ test_read (w ∷ ts) front rest (suc i) l =
     ∙ ap (λ r. word_in r (length (front ++ word_out w) + room_for (take i ts))) (ap (λ z. front ++ z) (append_assoc (word_out w) (words_out ts) rest) ∙ sym (append_assoc front (word_out w) (words_out ts ++ rest)))
     ∙ test_read ts (front ++ word_out w) rest i (omega arith)
 
+-- reading back a row that begins with tests gives the tests, and each stands at its place
 pub tests_read_back : TestsReadBack
 tests_read_back ts rest = (read_back ts (length ts ∷ []) rest 1 refl, λ i l. test_read ts (length ts ∷ []) rest i l)
 
@@ -142,6 +144,7 @@ tests_read_back ts rest = (read_back ts (length ts ∷ []) rest 1 refl, λ i l. 
 pub written_name : (ts : List Word) (s t : Writer) → Fed Wrote ts s t → s.at + room_for ts ≤ length s.row.now → s.row.ghost_name ≡ t.row.ghost_name
 written_name ts s t fed h = sym (wrote ts s t fed h).0
 
+-- the whole row: how many tests there are, the tests, and the rest as it was
 pub written_row : (ts : List Word) (out : List ℕ) (n : ℕ) (s t : Writer) → Fed Wrote ts s t → s.row.now ≡ set out 0 n → s.at ≡ 1 → n ≡ length ts → 1 + room_for ts ≤ length out →
     t.row.now ≡ tests_row ts ++ drop (1 + room_for ts) out
 written_row ts out n s t fed row at count fits =

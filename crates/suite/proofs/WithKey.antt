@@ -14,12 +14,15 @@ use Rattle.suite.proofs.Places.{word_at, length_word}
 use Rattle.suite.proofs.TakenApart.{products_append}
 
 module _ (ws : List ByValue) (i : ℕ) (x : ByValue) (inside : i < length ws) (is : x ≡ get_or ws i x) where
+  -- these words, each as its keys
   abbrev W : List Word
   W = words_of ws
 
+  -- the first i + 1 words are the first i, and then x
   more : take (i + 1) W ≡ take i W ++ word_of x ∷ []
   more = take_more W i [] (omega (arith, length-map ws word_of)) ∙ ap (λ z. take i W ++ z ∷ []) (word_at ws i x inside is)
 
+  -- so x put behind the first i makes the first i + 1
   pub plain_more : (fs gs : List Word) → fs ≡ take i W → gs ≡ fs ++ word_of x ∷ [] → gs ≡ take (i + 1) W
   plain_more fs gs e h = h ∙ ap (λ z. z ++ word_of x ∷ []) e ∙ sym more
 
@@ -31,6 +34,7 @@ module _ (ws : List ByValue) (i : ℕ) (x : ByValue) (inside : i < length ws) (i
       ∙ ap (λ z. front ++ (each_behind (get_or W i []) (single_keys key) ++ z ∷ [])) (last ∙ ap (λ z. z ++ key ∷ []) (sym (word_at ws i x inside is)))
       ∙ ap (λ z. front ++ z) (sym (map-append (λ w. get_or W i [] ++ w) (single_keys key) ((key ∷ []) ∷ [])) ∙ ap (each_behind (get_or W i [])) (sym (map-range_with_len_more (λ y. y ∷ []) 0 key key (omega arith))))
 
+  -- if every word has fewer than 16 keys, so has x
   pub short_word : AllByRecursion (λ w. length w < 16) W → x.len < 16
   short_word h = omega (arith, All-get_or (λ w. length w < 16) W i [] (omega (arith, length-map ws word_of)) h, ap length (word_at ws i x inside is), length_word x)
 
@@ -44,6 +48,7 @@ word_done ws i k key fs l all e =
     ∙ ap (λ z. words_of ws ++ z) (sym (products_append (take i (words_of ws)) (get_or (words_of ws) i [] ∷ []) (single_keys k)))
     ∙ ap (λ z. words_of ws ++ products z (single_keys k)) (sym (take_more (words_of ws) i [] (omega (arith, length-map ws word_of))))
 
+-- every key stands behind every word
 pub all_done : (ws : List ByValue) (i k : ℕ) (fs : List Word) → length ws ≤ i → fs ≡ words_of ws ++ products (take i (words_of ws)) (single_keys k) → fs ≡ with_key k (words_of ws)
 all_done ws i k fs l e = e ∙ ap (λ z. words_of ws ++ products z (single_keys k)) (take_all i (words_of ws) (omega (arith, length-map ws word_of)))
 
@@ -51,10 +56,12 @@ all_done ws i k fs l e = e ∙ ap (λ z. words_of ws ++ products z (single_keys 
 pub plain_done : (ws : List ByValue) (i k : ℕ) (fs : List Word) → length ws ≤ i → fs ≡ take i (words_of ws) → fs ≡ words_of ws ++ products (take 0 (words_of ws)) (single_keys k)
 plain_done ws i k fs l e = e ∙ take_all i (words_of ws) (omega (arith, length-map ws word_of)) ∙ sym (append-nil (words_of ws))
 
+-- for at most 16 words and 8 keys every place is below 144
 pub place_low : (n i k key : ℕ) → n ≤ 16 → k ≤ 8 → i < n → key < k → n + i * k + key < 144
 place_low n i k key a b l g =
     let most : (i + 1) * k ≤ 16 * 8 = mul-le-mul {n₁ = i + 1} {m₁ = k} {n₂ = 16} {m₂ = 8} (omega arith) b in
     omega (arith, add-mul i 1 k, one-mul k)
 
+-- behind the last key of a word comes the place for the first key of the next
 pub place_next : (n i k key : ℕ) → key ≡ k → n + i * k + key ≡ n + (i + 1) * k
 place_next n i k key e = omega (arith, add-mul i 1 k, one-mul k)

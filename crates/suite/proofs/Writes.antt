@@ -64,6 +64,7 @@ marks_none n f ws own j m b l e = e ∙ ap (λ z. z || within own j m) (get_or-r
 
 module _ (e : ℕ) (f : List ℕ) (ws : List Word) (i own j : ℕ) (x : Word) (inside : i < length ws) (is : x ≡ get_or ws i x) (m : ℕ) (b r : Bool)
     (so_far : b ≡ (within own j m || any (marks (suc e) f m) (take i (words_of ws)))) where
+  -- with x too, the place has a mark if it had one before or x marks it
   push : (within own j m || any (marks (suc e) f m) (take (i + 1) (words_of ws))) ≡ (b || marks (suc e) f m (word_of x))
   push =
       ap (λ z. within own j m || any (marks (suc e) f m) z) (take_more (words_of ws) i [] (omega (arith, length-map ws word_of)) ∙ ap (λ z. take i (words_of ws) ++ z ∷ []) (word_at ws i x inside is))
@@ -75,6 +76,7 @@ module _ (e : ℕ) (f : List ℕ) (ws : List Word) (i own j : ℕ) (x : Word) (i
       group true b c = refl
       group false b c = refl
 
+  -- if f begins with x, the e + 1 places behind x are marked too
   pub marks_more : begins (word_of x) f ≡ true → r ≡ (b || within x.len (e + 1) m) → r ≡ (within own j m || any (marks (suc e) f m) (take (i + 1) (words_of ws)))
   unfolding marks
   marks_more y h = h ∙ ap (λ z. b || z) (sym here) ∙ sym push
@@ -85,6 +87,7 @@ module _ (e : ℕ) (f : List ℕ) (ws : List Word) (i own j : ℕ) (x : Word) (i
       here : marks (suc e) f m (word_of x) ≡ within x.len (e + 1) m
       here = rw (y, length_word x, one)
 
+  -- if it does not, the marks stay as they are
   pub marks_same : begins (word_of x) f ≡ false → b ≡ (within own j m || any (marks (suc e) f m) (take (i + 1) (words_of ws)))
   unfolding marks
   marks_same y = or_false b ∙ ap (λ z. b || z) (sym here) ∙ sym push

@@ -4,5 +4,6 @@ use Rattle.cover.specs.Words.{words_of}
 use Rattle.machine.specs.Machine.{Word}
 use Rattle.suite.specs.declared.fronts.Fronts.{Fronts}
 
+-- as many of the words as are counted, each as its keys
 abbrev pub fronts_of : Fronts → List Word
 fronts_of f = words_of (take f.count f.words)

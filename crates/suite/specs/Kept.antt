@@ -51,5 +51,6 @@ unfoldable pub kept_from : ℕ → ℕ → List Word → List Word → List Word
 kept_from k e ws earlier [] = []
 kept_from k e ws earlier (v ∷ vs) = kept_behind k e ws earlier v (suc e) ++ kept_from k e ws (earlier ++ v ∷ []) vs
 
+-- the same with no words before them
 abbrev pub kept : ℕ → ℕ → List Word → List Word → List Word
 kept k e vs ws = kept_from k e ws [] vs

@@ -27,6 +27,7 @@ unfoldable pub words_up_to : ℕ → ℕ → ℕ
 words_up_to k zero = 1
 words_up_to k (suc e) = words_up_to k e + k ^ suc e
 
+-- there are at most as many tests as there are ways to make one
 abbrev pub FewTests : Type 0
 FewTests = (k e : ℕ) (m : Machine) → length (tests k e m) ≤ length m * (1 + k) * words_up_to k e * length (separating_words k m)
 
