@@ -11,7 +11,7 @@ use Rattle.machine.proofs.Runs.{after_below}
 use Rattle.minimal.specs.Levels.{class_in}
 use Rattle.minimal.specs.Search.{Searched, Kept, word_at}
 use Rattle.minimal.specs.declared.tree.Tree.{Tree}
-use Rattle.minimal.proofs.Found.{found_short}
+use Rattle.minimal.proofs.Searches.{found_short}
 use Rattle.cover.specs.Cover.{access_words}
 use Rattle.cover.specs.Words.{word_of, words_of}
 use Rattle.cover.specs.declared.words.Word.{Word}

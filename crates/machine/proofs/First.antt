@@ -1,12 +1,19 @@
 -- The first number that passes a test: how it is shown, and what it tells; and when there is no answer. Assumes nothing.
-use Rattle.std.proofs.Common.{◌≡◌, ℕ, zero, suc, ◌<◌, Bool, true, false, ◌⊎◌, is_some, Some, None, Option, refl, inl, inr, arith}
-use Rattle.std.proofs.lemmas.Bool.{cases_Bool, cases_lt, true≢false}
+use Rattle.std.proofs.Common.{◌≡◌, ℕ, zero, suc, ◌<◌, Bool, true, false, ◌⊎◌, List, length, get_or, is_some, Some, None, Option, sym, refl, inl, inr, arith}
+use Rattle.std.specs.List.{position, position_or_len}
+use Rattle.std.proofs.lemmas.Bool.{cases_Bool, cases_lt, lt-ltb, le-ltb, true≢false}
+use Rattle.std.proofs.lemmas.List.Sums.{fails_before_first, passes_at_first}
 use Rattle.machine.specs.First.{or_else, first}
 
 -- no answer, as a test says it
 pub none_from_test : {A : Type 0} (o : Option A) → is_some o ≡ false → o ≡ None
 none_from_test None e = refl
 none_from_test (Some x) e = absurd (true≢false e)
+
+-- an answer, as a test says it
+pub some_from_test : {A : Type 0} (o : Option A) → is_some o ≡ true → (x : A) × (o ≡ Some x)
+some_from_test None e = absurd (true≢false (sym e))
+some_from_test (Some x) e = (x, refl)
 
 -- neither of two has one
 pub or_else_none : {A : Type 0} (a b : Option A) → or_else a b ≡ None → (a ≡ None) × (b ≡ None)
@@ -47,4 +54,17 @@ first_cases p (suc n) =
       ]
       | inr b ↦ let f = b.2 in
           inr (b.0, first_some p (suc n) b.0 (let l = f.inside in omega arith) f.passes f.none, record { inside = let l = f.inside in omega arith; passes = f.passes; none = f.none })
+    ]
+
+-- if there is no first, none passes
+pub none_first : (p : ℕ → Bool) (n : ℕ) → first p n ≡ None → (j : ℕ) → j < n → p j ≡ false
+none_first p n e =
+    elim (first_cases p n) [ inl a ↦ a.1 | inr b ↦ absurd (let s = b.1 in let z : ◌≡◌ {A = ℕ} 0 1 = cc in omega arith) ]
+
+-- where in a list an element first passes
+pub first_position : {X : Type 0} (p : X → Bool) (xs : List X) (d : X) → position p xs ≡ first (λ j. p (get_or xs j d)) (length xs)
+first_position p xs d =
+    elim (cases_lt (position_or_len p xs) (length xs)) [
+      | inl l ↦ rw (lt-ltb _ _ l) (sym (first_some _ _ _ l (passes_at_first p xs d l) (λ i h. fails_before_first p xs i d h)))
+      | inr g ↦ rw (le-ltb _ _ g) (sym (first_none _ _ (λ j h. fails_before_first p xs j d (omega arith))))
     ]

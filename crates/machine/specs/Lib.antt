@@ -5,4 +5,5 @@ pub mod Reading
 pub mod Refusals
 pub mod Row
 pub mod Run
+pub mod Told
 pub mod Words

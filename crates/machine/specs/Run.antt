@@ -1,10 +1,10 @@
 -- Comparing what a machine shows for a word with what was seen. Assumes nothing: these are definitions.
-use Rattle.std.specs.Prelude.{◌≡◌, ℕ, ◌+◌, ◌^◌, ◌<◌, Bool, not, ◌||◌, List, length, Some, None, Option, ◌==◌, nat_le, slice_index}
+use Rattle.std.specs.Prelude.{ℕ, Bool, not, ◌||◌, List, length, Some, None, Option, ◌==◌, nat_le, slice_index}
 use Rattle.machine.specs.declared.running.Difference.{Difference}
 use Rattle.machine.specs.declared.view.Machine.{Machine as View}
 use Rattle.machine.specs.First.{first}
-use Rattle.machine.specs.Machine.{Machine, Word, move, no_move, outputs}
-use Rattle.machine.specs.Row.{states_in, machine_in}
+use Rattle.machine.specs.Machine.{Machine, Word, outputs}
+use Rattle.machine.specs.Row.{machine_in}
 
 -- the machine that a view shows
 abbrev pub model : View → Machine
@@ -26,8 +26,3 @@ at_key expected (Some i) = Some (record { key = i; expected = slice_index expect
 -- the first key of a word at which something else was seen than the machine shows, with what it shows there
 unfoldable pub difference : Machine → Word → List ℕ → Option Difference
 difference m w seen = at_key (outputs m 0 w) (first (differs_at (outputs m 0 w) seen) (length w))
-
--- where in a row the move of a state and a key stands, if there is one
-abbrev pub StandsAt : List ℕ → ℕ → ℕ → Option ℕ → Type 0
-StandsAt row s x None = move (machine_in row) s x ≡ no_move
-StandsAt row s x (Some at) = (at + 1 < length row) × (move (machine_in row) s x ≡ record { to = slice_index row at; output = slice_index row (at + 1) }) × (slice_index row at < states_in row) × (slice_index row (at + 1) < 2 ^ 32)

@@ -7,8 +7,8 @@ mod refusals;
 mod running;
 mod view;
 
-pub use making::{Derive, write_machine};
-pub use reading::{Shape, read, read_shape};
+pub use making::{Derived, write_machine};
+pub use reading::{Shape, read_shape};
 pub use refusals::Refusal;
-pub use running::{Difference, word_at};
+pub use running::{Difference, Step, word_at};
 pub use view::Machine;

@@ -1,66 +1,66 @@
-// Writing a machine that is made of another one, move by move.
+// Writing a machine that is worked out move by move.
 ghost use Rattle.std.specs.Prelude.{◌≡◌, ℕ, ◌<◌, ◌≤◌, ◌++◌, length, drop};
 ghost use Rattle.machine.specs.Machine.{Machine as Model, move};
 ghost use Rattle.machine.specs.Making.{Writable, MachineWritten, ReadsBack};
 ghost use Rattle.machine.specs.Row.{room, row_of};
-ghost use Rattle.machine.specs.Run.{model, keys_of};
 
 use crate::refusals::Refusal;
-use crate::view::Machine;
+use crate::running::Step;
 
-// A way to make a machine of another one with the same keys.
-pub trait Derive {
-    // the machine made of one with so many keys
-    ghost made: { Self → ℕ → Model → Model };
+// A machine that stands in no row: each of its moves is worked out when it is asked for.
+pub trait Derived {
+    // the machine
+    ghost made: { Self → Model };
+    // how many keys it has
+    ghost made_keys: { Self → ℕ };
 
-    fn states(&self, m: Machine) -> usize
-        requires { Writable (keys_of m) (made self.now (keys_of m) (model m)) }
-        ensures { result ≡ length (made self.now (keys_of m.entry) (model m.entry)) };
+    fn states(&self) -> usize
+        ensures { result ≡ length (made self.now) };
 
-    fn target(&self, m: Machine, state: usize, key: usize) -> usize
-        requires writable { Writable (keys_of m) (made self.now (keys_of m) (model m)) }
-        requires state_within { state < length (made self.now (keys_of m) (model m)) }
-        requires key_within { key < keys_of m }
-        ensures { result ≡ (move (made self.now (keys_of m.entry) (model m.entry)) state key).to };
+    fn keys(&self) -> usize
+        ensures { result ≡ made_keys self.now };
 
-    fn output(&self, m: Machine, state: usize, key: usize) -> u64
-        requires writable { Writable (keys_of m) (made self.now (keys_of m) (model m)) }
-        requires state_within { state < length (made self.now (keys_of m) (model m)) }
-        requires key_within { key < keys_of m }
-        ensures { result ≡ (move (made self.now (keys_of m.entry) (model m.entry)) state key).output };
+    fn step(&self, state: usize, key: usize) -> Step
+        requires state_within { state < length (made self.now) }
+        requires key_within { key < made_keys self.now }
+        ensures to { result.to ≡ (move (made self.now) state key).to }
+        ensures output { result.output ≡ (move (made self.now) state key).output };
+
+    // it can be written
+    ghost writable: { (d : Self) → Writable (made_keys d) (made d) };
 }
 
 // The whole row, over what the lent row held.
-fn write<D: Derive>(way: &D, m: Machine, out: &mut [u64])
-    requires writable { Writable (keys_of m) (D.made way.now (keys_of m) (model m)) }
-    requires fits { room (length (D.made way.now (keys_of m) (model m))) (keys_of m) ≤ length out.old }
-    ensures { out.new ≡ row_of (keys_of m.entry) (D.made way.now (keys_of m.entry) (model m.entry)) ++ drop (room (length (D.made way.now (keys_of m.entry) (model m.entry))) (keys_of m.entry)) out.old }
+fn write<D: Derived>(machine: &D, out: &mut [u64])
+    requires { room (length (D.made machine.now)) (D.made_keys machine.now) ≤ length out.old }
+    ensures { out.new ≡ row_of (D.made_keys machine.now) (D.made machine.now) ++ drop (room (length (D.made machine.now)) (D.made_keys machine.now)) out.old }
 {
-    let states = way.states(m);
-    let keys = m.keys();
+    let states = machine.states();
+    let keys = machine.keys();
     out[0] = states as u64;
     out[1] = keys as u64;
+    // the place goes on with the moves: no plainer by pieces of the row taken in step with two loops
     let mut at = 2;
     for state in 0..states {
         for key in 0..keys {
-            out[at] = way.target(m, state, key) as u64;
-            out[at + 1] = way.output(m, state, key);
+            let step = machine.step(state, key);
+            out[at] = step.to as u64;
+            out[at + 1] = step.output;
             at += 2;
         }
     }
 }
 
-// Writes a machine made of another into a lent row and answers its number of states, or refuses and writes nothing.
-pub fn write_machine<D: Derive>(way: &D, m: Machine, out: &mut [u64]) -> Result<u64, Refusal>
-    requires { Writable (keys_of m) (D.made way.now (keys_of m) (model m)) }
-    ensures written { MachineWritten (keys_of m.entry) (D.made way.now (keys_of m.entry) (model m.entry)) out.old result out.new }
-    ensures reads_back { ReadsBack (keys_of m.entry) (D.made way.now (keys_of m.entry) (model m.entry)) result out.new }
+// Writes a machine into a lent row and answers its number of states, or refuses and writes nothing.
+pub fn write_machine<D: Derived>(machine: &D, out: &mut [u64]) -> Result<u64, Refusal>
+    ensures written { MachineWritten (D.made_keys machine.now) (D.made machine.now) out.old result out.new }
+    ensures reads_back { ReadsBack (D.made_keys machine.now) (D.made machine.now) result out.new }
 {
-    let states = way.states(m);
-    let needed = 2 + 2 * (states * m.keys());
+    let states = machine.states();
+    let needed = 2 + 2 * (states * machine.keys());
     if out.len() < needed {
         return Err(Refusal::NoRoomForMachine(needed as u64));
     }
-    write(way, m, out);
+    write(machine, out);
     Ok(states as u64)
 }

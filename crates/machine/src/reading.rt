@@ -1,10 +1,11 @@
 // Reading a machine out of a row, or saying why it holds none.
 ghost use Rattle.std.specs.Prelude.{◌≡◌, ◌+◌, ◌*◌, ◌<◌, true, false, length, Some, None};
 ghost use Rattle.machine.specs.First.{first};
-ghost use Rattle.machine.specs.Reading.{Heads, ShapeRead, RowRead};
+ghost use Rattle.machine.specs.Reading.{Heads, ShapeRead, MachineRead};
 ghost use Rattle.machine.specs.Refusals.{outside, shape_refusal, bad_move};
 
 use crate::refusals::Refusal;
+use crate::view::Machine;
 
 // How many states and keys a machine has.
 #[derive(Clone, Copy)]
@@ -51,6 +52,7 @@ fn is_bad(row: &[u64], number: usize) -> bool
 }
 
 // The number of the first move that leads to no state or shows 2^32 or more.
+// A loop over states and one over keys, left by the label: moves are told by state and key here as everywhere.
 fn first_bad_move(row: &[u64], shape: Shape) -> Option<u64>
     requires { (shape_refusal 16 8 row.now ≡ None) × (Heads row.now shape) }
     ensures { result ≡ first (bad_move row.now) (shape.states * shape.keys) }
@@ -68,13 +70,19 @@ fn first_bad_move(row: &[u64], shape: Shape) -> Option<u64>
     bad
 }
 
-// The shape of the machine in a row, or why the row holds none.
-pub fn read(row: &[u64]) -> Result<Shape, Refusal>
-    ensures { RowRead row.now result }
-{
-    let shape = read_shape(row, 16, 8)?;
-    match first_bad_move(row, shape) {
-        Some(number) => Err(Refusal::BadMove(number)),
-        None => Ok(shape),
+impl<'a> Machine<'a> {
+    // The machine in a row, or why the row holds none.
+    pub fn read(row: &'a [u64]) -> Result<Machine<'a>, Refusal>
+        ensures { MachineRead row.now result }
+    {
+        let shape = read_shape(row, 16, 8)?;
+        if let Some(number) = first_bad_move(row, shape) {
+            return Err(Refusal::BadMove(number));
+        }
+        Ok(Machine {
+            row,
+            states: shape.states,
+            keys: shape.keys,
+        })
     }
 }

@@ -1,6 +1,10 @@
 // Why a request is refused.
-ghost use Rattle.std.specs.Prelude.{◌≡◌};
+ghost use Rattle.std.specs.Prelude.{◌≡◌, Some};
 ghost use Rattle.machine.specs.Refusals.{reason_of};
+ghost use Rattle.machine.specs.Told.{refusal_text};
+
+use std::error::Error;
+use std::fmt;
 
 // Each case holds its place; `reason_of` of specs/Refusals.antt gives its number.
 #[derive(Clone, Copy, Debug, PartialEq, Eq)]
@@ -55,3 +59,15 @@ impl Refusal {
         }
     }
 }
+
+impl fmt::Display for Refusal {
+    ghost output = { λ refusal. Some (refusal_text refusal) };
+
+    fn fmt<W: fmt::Write>(&self, f: &mut fmt::Formatter<W>) -> fmt::Result {
+        let number = self.number();
+        let place = self.place();
+        write!(f, "refused {number} at {place}")
+    }
+}
+
+impl Error for Refusal {}

@@ -1,12 +1,17 @@
 // What a machine does: its moves, its runs over words, and how it differs from what was seen.
 ghost use Rattle.std.specs.Prelude.{◌≡◌, ◌^◌, ◌<◌, length};
 ghost use Rattle.machine.specs.Machine.{move, after};
-ghost use Rattle.machine.specs.Reading.{Read};
-ghost use Rattle.machine.specs.Row.{machine_in, keys_in, word_in};
-ghost use Rattle.machine.specs.Run.{model, keys_of, difference, StandsAt};
+ghost use Rattle.machine.specs.Row.{word_in};
+ghost use Rattle.machine.specs.Run.{model, keys_of, difference};
 
-use crate::reading::Shape;
 use crate::view::Machine;
+
+// What a key does in a state: the state that it leads to, and the output.
+#[derive(Clone, Copy)]
+pub struct Step {
+    pub to: usize,
+    pub output: u64,
+}
 
 // The key of a word at which something else was seen than the machine shows, and what it shows there.
 #[derive(Clone, Copy)]
@@ -15,19 +20,7 @@ pub struct Difference {
     pub expected: u64,
 }
 
-impl<'a> Machine<'a> {
-    // The machine in a row that was read.
-    pub fn over(row: &'a [u64], shape: Shape) -> Machine<'a>
-        requires { Read row.now shape }
-        ensures { (model result ≡ machine_in row.now) × (keys_of result ≡ keys_in row.now) }
-    {
-        Machine {
-            row,
-            states: shape.states,
-            keys: shape.keys,
-        }
-    }
-
+impl Machine<'_> {
     pub fn states(self) -> usize
         ensures { result ≡ length (model self.entry) }
     {
@@ -40,36 +33,37 @@ impl<'a> Machine<'a> {
         self.keys
     }
 
-    // Where in the row the move of a state and a key stands, if they are there.
-    fn place(self, state: usize, key: usize) -> Option<usize>
-        ensures { StandsAt self.entry.row.now state key result }
+    // What a key does in a state: it leads to state 0 and shows 0 where the state or the key is not there, for a move is total.
+    pub fn step(self, state: usize, key: usize) -> Step
+        ensures to { result.to ≡ (move (model self.entry) state key).to }
+        ensures output { result.output ≡ (move (model self.entry) state key).output }
+        ensures inside { result.to < length (model self.entry) }
+        ensures bound { result.output < 2 ^ 32 }
     {
         if state >= self.states || key >= self.keys {
-            return None;
+            return Step { to: 0, output: 0 };
         }
-        Some(2 + 2 * (state * self.keys + key))
+        let at = 2 + 2 * (state * self.keys + key);
+        Step {
+            to: self.row[at] as usize,
+            output: self.row[at + 1],
+        }
     }
 
-    // The state that a key leads to: state 0 where the state or the key is not there.
+    // The state that a key leads to.
     pub fn next(self, state: usize, key: usize) -> usize
         ensures value { result ≡ (move (model self.entry) state key).to }
         ensures inside { result < length (model self.entry) }
     {
-        let Some(at) = self.place(state, key) else {
-            return 0;
-        };
-        self.row[at] as usize
+        self.step(state, key).to
     }
 
-    // What a key shows: 0 where the state or the key is not there.
+    // What a key shows.
     pub fn output(self, state: usize, key: usize) -> u64
         ensures value { result ≡ (move (model self.entry) state key).output }
         ensures bound { result < 2 ^ 32 }
     {
-        let Some(at) = self.place(state, key) else {
-            return 0;
-        };
-        self.row[at + 1]
+        self.step(state, key).output
     }
 
     // The state after a word.
@@ -88,13 +82,15 @@ impl<'a> Machine<'a> {
         ensures { result ≡ difference (model self.entry) word.now seen.now }
     {
         let mut state = 0;
-        for i in 0..word.len() {
-            let key = word[i] as usize;
-            let expected = self.output(state, key);
-            if i >= seen.len() || seen[i] != expected {
-                return Some(Difference { key: i, expected });
+        for (i, key) in word.iter().enumerate() {
+            let step = self.step(state, *key as usize);
+            if i >= seen.len() || seen[i] != step.output {
+                return Some(Difference {
+                    key: i,
+                    expected: step.output,
+                });
             }
-            state = self.next(state, key);
+            state = step.to;
         }
         None
     }
@@ -105,13 +101,8 @@ pub fn word_at(row: &[u64], at: usize) -> &[u64]
     ensures { result.now ≡ word_in row.now at }
 {
     if at >= row.len() {
-        return &row[0..0];
+        return &[];
     }
     let rest = &row[at + 1..];
-    let len = row[at];
-    if len < rest.len() as u64 {
-        &rest[0..len as usize]
-    } else {
-        rest
-    }
+    &rest[..(row[at] as usize).min(rest.len())]
 }

@@ -7,20 +7,19 @@ use Rattle.machine.specs.Row.{keys_in, machine_in}
 use Rattle.machine.specs.declared.refusals.Refusal.{Refusal}
 use Rattle.machine.proofs.Rows.{Shaped, accepted}
 use Rattle.machine.proofs.Written.{written_accepted}
-use Rattle.minimal.specs.Levels.{class_in}
 use Rattle.minimal.specs.Minimal.{MinimalMachine}
 use Rattle.minimal.specs.Minimized.{Minimized, MinimalReadsBack}
 use Rattle.minimal.specs.Quotient.{Equivalence, class_after, quotient}
-use Rattle.minimal.specs.Search.{SearchTree}
+use Rattle.minimal.specs.Search.{found_count, class_found, SearchTree}
 use Rattle.minimal.specs.declared.tree.Tree.{Tree}
 use Rattle.minimal.proofs.Quotient.{quotient_machine, length_quotient, full_quotient, move_quotient}
 
 -- the machine made of the classes that a search has found is the minimal machine
-pub found_machine : {k : ℕ} {m : Machine} → Proper k m → (class : ℕ → ℕ) → Equivalence k m class → (tree : Tree) → SearchTree k (class_after class m) tree → MinimalMachine k m (quotient k m class (class_in tree.classes) tree.count)
+pub found_machine : {k : ℕ} {m : Machine} → Proper k m → (class : ℕ → ℕ) → Equivalence k m class → (tree : Tree) → SearchTree k (class_after class m) tree → MinimalMachine k m (quotient k m class (class_found tree) (found_count tree))
 found_machine {k} {m} proper class of tree found =
     let kept = found.2 in
-    let P : ℕ → Type 0 = λ n. MinimalMachine k m (quotient k m class (class_in tree.classes) n) in
-    subst P kept.many (quotient_machine proper of found.1 (class_in tree.classes) (λ j h. kept.values j (let a = kept.many in omega arith)))
+    let P : ℕ → Type 0 = λ n. MinimalMachine k m (quotient k m class (class_found tree) n) in
+    subst P kept.many (quotient_machine proper of found.1 (class_found tree) (λ j h. kept.values j (let a = kept.many in omega arith)))
 
 -- a state of the machine made is one of the classes found
 pub state_found : (k : ℕ) (m : Machine) (class entry : ℕ → ℕ) (n s : ℕ) → s < length (quotient k m class entry n) → s < n

@@ -3,11 +3,11 @@ pub mod Answered
 pub mod Beside
 pub mod Counts
 pub mod FirstWords
-pub mod Found
 pub mod Growing
 pub mod Moore
 pub mod Needed
 pub mod Quotient
 pub mod Refined
+pub mod Searches
 pub mod Smallest
 pub mod Unique

@@ -1,15 +1,17 @@
 -- States that a machine needs: reached, and equivalent to no smaller one. Assumes nothing.
-use Rattle.std.proofs.Common.{◌≡◌, ℕ, ◌<◌, ◌≤◌, length, sym, refl, ap, ◌∙◌, inl, inr, arith}
+use Rattle.std.proofs.Common.{◌≡◌, ℕ, ◌<◌, ◌≤◌, eqb, [], ◌∷◌, length, Some, None, sym, ap, ◌∙◌, inl, inr, arith}
+use Rattle.std.specs.List.{position}
 use mathlib.Core.Path.{fun_ext}
-use Rattle.std.proofs.lemmas.Bool.{cases_order}
+use Rattle.std.proofs.lemmas.Bool.{cases_order, eqb-true, eqb-false}
 use Rattle.machine.specs.Machine.{Machine, Word, Keys, Proper, Minimal, EquivalentStates, after, move}
-use Rattle.machine.proofs.Runs.{after_below}
-use Rattle.minimal.specs.Levels.{class_in}
-use Rattle.minimal.specs.Minimal.{Redundant}
-use Rattle.minimal.specs.Quotient.{Congruence, Equivalence, class_after, place}
-use Rattle.minimal.specs.Search.{word_at, SearchTree}
+use Rattle.machine.proofs.First.{first_cases}
+use Rattle.machine.proofs.Runs.{after_append, after_below}
+use Rattle.minimal.specs.Minimal.{Redundant, NoneRedundant}
+use Rattle.minimal.specs.Quotient.{Congruence, Equivalence, class_after}
+use Rattle.minimal.specs.Search.{word_at, found_count, SearchTree}
 use Rattle.minimal.specs.declared.tree.Tree.{Tree}
-use Rattle.minimal.proofs.Growing.{placed, unplaced}
+use Rattle.minimal.proofs.Growing.{found_some, found_none}
+use Rattle.minimal.proofs.Searches.{search_exists}
 
 -- classes of one state each
 module _ (k : ℕ) (m : Machine) (class : ℕ → ℕ) (own : (s : ℕ) → s < length m → class s ≡ s) where
@@ -48,16 +50,37 @@ module _ {k : ℕ} {m : Machine} where
     reached = λ s h. (all s h).reached;
   }
 
-  module _ (class : ℕ → ℕ) (of : Equivalence k m class) (tree : Tree) (found : SearchTree k (after m 0) tree) (s p : ℕ) (h : s < length m)
-      (at : p ≡ place (class_in tree.classes) tree.count s) where
+  -- no state of a minimal machine is redundant
+  pub minimal_none_redundant : Minimal k m → NoneRedundant k m
+  minimal_none_redundant minimal s h (inl r) = let w = minimal.reached s h in r w.0 w.1 w.2
+  minimal_none_redundant minimal s h (inr r) = let e = minimal.distinct r.0 s (let l = r.1 in omega arith) h r.2 in absurd (let l = r.1 in omega arith)
+
+  -- and a machine of which no state is redundant is minimal: a search finds the words that reach its states
+  pub none_redundant_minimal : Proper k m → NoneRedundant k m → Minimal k m
+  unfolding after
+  none_redundant_minimal proper none = record {
+    distinct = λ s t hs ht e. elim (cases_order s t) [
+      | inl q ↦ q
+      | inr d ↦ elim d [ inl l ↦ absurd (none t ht (inr (s, l, e))) | inr l ↦ absurd (none s hs (inr (t, l, λ w ok. sym (e w ok)))) ]
+    ];
+    reached = λ s h.
+        let found = search_exists k (after m 0) (length m) (λ w ok. after_below proper 0 w proper.some)
+        (λ u v x _ _ _ e. after_append m 0 u (x ∷ []) ∙ ap (λ t. (move m t x).to) e ∙ sym (after_append m 0 v (x ∷ []))) in
+        elim (first_cases (λ j. eqb (after m 0 (word_at found.0 j)) s) (length found.0)) [
+          | inl out ↦ absurd (none s h (inl (λ w ok e. let c = found.1.complete w ok in eqb-false _ _ (out.1 c.0 c.1) (c.2 ∙ e))))
+          | inr some ↦ (word_at found.0 some.0, (found.1.first some.0 some.2.inside).keys, eqb-true _ _ some.2.passes)
+        ];
+  }
+
+  module _ (class : ℕ → ℕ) (of : Equivalence k m class) (tree : Tree) (found : SearchTree k (after m 0) tree) (s : ℕ) (h : s < length m) where
     -- found by the search, and the smallest of its class
-    pub needed_state : s ≤ class s → p < tree.count → Needed k m s
-    needed_state own inside =
-        let e = placed _ _ _ s p at refl inside in
+    pub needed_state : s ≤ class s → (j : ℕ) → position (λ found. eqb found.class s) tree.found.items ≡ Some j → Needed k m s
+    needed_state own j e =
+        let at = found_some tree s j e in
         let kept = found.2 in
-        let l : p < length found.0 = (let a = kept.many in omega arith) in
+        let l : j < length found.0 = (let a = kept.many in let b = at.0 in omega arith) in
         record {
-          reached = (word_at found.0 p, (found.1.first p l).keys, sym (kept.values p inside) ∙ e);
+          reached = (word_at found.0 j, (found.1.first j l).keys, sym (kept.values j at.0) ∙ at.1);
           distinct = λ t less same. let a = of.smallest s t h (omega arith) same in omega arith;
         }
 
@@ -66,9 +89,9 @@ module _ {k : ℕ} {m : Machine} where
     redundant_class l = inr (class s, l, of.equivalent s h)
 
     -- a state that the search did not find is redundant
-    pub redundant_place : tree.count ≤ p → Redundant k m s
+    pub redundant_place : position (λ found. eqb found.class s) tree.found.items ≡ None → Redundant k m s
     redundant_place out = inl (λ w ok e.
         let c = found.1.complete w ok in
         let kept = found.2 in
-        let l : c.0 < tree.count = (let a = kept.many in let b = c.1 in omega arith) in
-        unplaced _ _ _ s p at refl out c.0 l (kept.values c.0 l ∙ c.2 ∙ e))
+        let l : c.0 < found_count tree = (let a = kept.many in let b = c.1 in omega arith) in
+        found_none tree s out c.0 l (kept.values c.0 l ∙ c.2 ∙ e))

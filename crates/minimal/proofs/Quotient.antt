@@ -14,7 +14,7 @@ use Rattle.minimal.specs.Promises.{MinimalExists}
 use Rattle.minimal.specs.Quotient.{Congruence, Equivalence, class_after, place, quotient, quotient_move}
 use Rattle.minimal.specs.Search.{word_at, Searched}
 use Rattle.minimal.proofs.Smallest.{class_smallest}
-use Rattle.minimal.proofs.Found.{one_place, found_not_after, search_exists}
+use Rattle.minimal.proofs.Searches.{one_place, found_not_after, search_exists}
 use Rattle.minimal.proofs.Alike.{equivalent_alike}
 use Rattle.minimal.proofs.Moore.{alike_enough}
 use Rattle.minimal.proofs.FirstWords.{NotAfter}

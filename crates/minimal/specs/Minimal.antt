@@ -13,6 +13,10 @@ pub record FirstRedundant (k : ℕ) (m : Machine) (s : ℕ) : Type 0 where
   pub redundant : Redundant k m s
   pub smallest : (t : ℕ) → t < s → Redundant k m t → ⊥
 
+-- no state is redundant: another way to say that a machine is minimal
+abbrev pub NoneRedundant : ℕ → Machine → Type 0
+NoneRedundant k m = (s : ℕ) → s < length m → Redundant k m s → ⊥
+
 -- the states are numbered in the order in which words in order first reach them:
 -- whatever word reaches t, an earlier word reaches s, for every s below t
 abbrev pub Numbered : ℕ → Machine → Type 0

@@ -1,9 +1,9 @@
-// A class for each of at most sixteen states.
-ghost use Rattle.std.specs.Prelude.{◌≡◌, length};
+// Classes of the states of a machine.
+use machine::Machine;
 
-// The class of a state is known by a state in it.
+// The class of each state is known by a state in it; there are at most sixteen.
 #[derive(Clone, Copy)]
-pub struct Classes {
-    pub of: [usize; 16],
-    ghost long: { length of ≡ 16 },
+pub(crate) struct Classes<'a> {
+    pub(crate) machine: Machine<'a>,
+    pub(crate) of: [usize; 16],
 }

@@ -7,70 +7,82 @@ ghost use Rattle.minimal.specs.Quotient.{Equivalence};
 
 use crate::classes::Classes;
 use machine::Machine;
+use std::array;
 
-// The class of the state that a key leads to.
-pub(crate) fn class_behind(m: Machine, classes: Classes, state: usize, key: usize) -> usize
-    ensures { result ≡ class_in classes.of (move (model m.entry) state key).to }
-{
-    classes.of[m.next(state, key)]
-}
-
-// The smallest state in which every key shows the same as in `state` and leads to a state of the same class.
-fn smallest(m: Machine, classes: Classes, state: usize) -> usize
-    ensures { result ≡ finer (keys_of m.entry) (model m.entry) classes.of state }
-{
-    'others: for other in 0..state {
-        for key in 0..m.keys() {
-            let same_output = m.output(other, key) == m.output(state, key);
-            let same_class = class_behind(m, classes, other, key)
-                == class_behind(m, classes, state, key);
-            if !(same_output && same_class) {
-                continue 'others;
-            }
+impl<'a> Classes<'a> {
+    // Every state in one class: without a key all show the same.
+    fn together(machine: Machine<'a>) -> Classes<'a>
+        ensures machine { result.machine ≡ machine.entry }
+        ensures one { (s : ℕ) → slice_index result.of s ≡ 0 }
+    {
+        Classes {
+            machine,
+            of: [0; 16],
         }
-        return other;
     }
-    state
-}
 
-// Every state in one class: without a key all show the same.
-pub(crate) fn together() -> Classes
-    ensures { (s : ℕ) → slice_index result.of s ≡ 0 }
-{
-    Classes { of: [0; 16] }
-}
-
-// Every state in a class of its own.
-pub(crate) fn apart() -> Classes
-    ensures { (s : ℕ) → s < 16 → class_in result.of s ≡ s }
-{
-    let mut of = [0; 16];
-    for state in 0..16 {
-        of[state] = state;
+    // Every state in a class of its own.
+    pub(crate) fn apart(machine: Machine<'a>) -> Classes<'a>
+        ensures machine { result.machine ≡ machine.entry }
+        ensures own { (s : ℕ) → s < 16 → class_in result.of s ≡ s }
+    {
+        Classes {
+            machine,
+            of: array::from_fn(|state| state),
+        }
     }
-    Classes { of }
-}
 
-// One key more: from the classes at a level those at the next.
-pub(crate) fn refine(m: Machine, classes: Classes) -> Classes
-    ensures finer { (s : ℕ) → s < length (model m.entry) → class_in result.of s ≡ finer (keys_of m.entry) (model m.entry) classes.of s }
-    ensures level { (j : ℕ) → AtLevel (keys_of m.entry) (model m.entry) j classes.of → AtLevel (keys_of m.entry) (model m.entry) (j + 1) result.of }
-{
-    let mut of = [0; 16];
-    for state in 0..m.states() {
-        of[state] = smallest(m, classes, state);
+    // The class of the state that a key leads to.
+    pub(crate) fn behind(self, state: usize, key: usize) -> usize
+        ensures { result ≡ class_in self.entry.of (move (model self.entry.machine) state key).to }
+    {
+        self.of[self.machine.next(state, key)]
     }
-    Classes { of }
-}
 
-// The classes of equivalent states: states that differ do so on a word with fewer keys than there are states, so that many rounds less one are enough.
-pub(crate) fn classify(m: Machine) -> Classes
-    ensures level { AtLevel (keys_of m.entry) (model m.entry) (length (model m.entry) - 1) result.of }
-    ensures equivalence { Equivalence (keys_of m.entry) (model m.entry) (class_in result.of) }
-{
-    let mut classes = together();
-    for _round in 1..m.states() {
-        classes = refine(m, classes);
+    // The smallest state in which every key shows the same as in `state` and leads to a state of the same class.
+    fn smallest(self, state: usize) -> usize
+        ensures { result ≡ finer (keys_of self.entry.machine) (model self.entry.machine) self.entry.of state }
+    {
+        let m = self.machine;
+        'others: for other in 0..state {
+            for key in 0..m.keys() {
+                let same_output = m.output(other, key) == m.output(state, key);
+                let same_class = self.behind(other, key) == self.behind(state, key);
+                if !(same_output && same_class) {
+                    continue 'others;
+                }
+            }
+            return other;
+        }
+        state
     }
-    classes
+
+    // One key more: from the classes at a level those at the next.
+    fn refined(self) -> Classes<'a>
+        ensures machine { result.machine ≡ self.entry.machine }
+        ensures finer { (s : ℕ) → s < length (model self.entry.machine) → class_in result.of s ≡ finer (keys_of self.entry.machine) (model self.entry.machine) self.entry.of s }
+        ensures level { (j : ℕ) → AtLevel (keys_of self.entry.machine) (model self.entry.machine) j self.entry.of → AtLevel (keys_of self.entry.machine) (model self.entry.machine) (j + 1) result.of }
+    {
+        let mut of = [0; 16];
+        for state in 0..self.machine.states() {
+            of[state] = self.smallest(state);
+        }
+        Classes {
+            machine: self.machine,
+            of,
+        }
+    }
+
+    // The classes of equivalent states: states that differ do so on a word with fewer keys than there are states, so that many rounds less one are enough.
+    pub(crate) fn of_equivalent(machine: Machine<'a>) -> Classes<'a>
+        ensures machine { result.machine ≡ machine.entry }
+        ensures level { AtLevel (keys_of machine.entry) (model machine.entry) (length (model machine.entry) - 1) result.of }
+        ensures equivalence { Equivalence (keys_of machine.entry) (model machine.entry) (class_in result.of) }
+    {
+        let mut classes = Classes::together(machine);
+        for _round in 1..machine.states() {
+            classes = classes.refined();
+        }
+        classes
+    }
 }

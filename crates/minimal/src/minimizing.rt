@@ -1,35 +1,45 @@
 // The minimal machine of a machine, written into a lent row.
+ghost use Rattle.machine.specs.Making.{Writable};
+ghost use Rattle.machine.specs.Run.{model, keys_of};
 ghost use Rattle.minimal.specs.Levels.{class_in};
 ghost use Rattle.minimal.specs.Minimized.{Minimized, MinimalReadsBack};
 ghost use Rattle.minimal.specs.Quotient.{quotient};
+ghost use Rattle.minimal.specs.Search.{class_found, found_count};
 
 use crate::classes::Classes;
-use crate::levels::{class_behind, classify};
-use crate::searching::search;
 use crate::tree::Tree;
-use machine::{Derive, Machine, Refusal, read, write_machine};
+use machine::{Derived, Machine, Refusal, Step, write_machine};
 
 // The machine that has a state for each class found.
 #[derive(Drop)]
-struct Quotient {
-    classes: Classes,
+struct Quotient<'a> {
+    classes: Classes<'a>,
     tree: Tree,
+    ghost writable: { Writable (keys_of classes.machine) (quotient (keys_of classes.machine) (model classes.machine) (class_in classes.of) (class_found tree) (found_count tree)) },
 }
 
-impl Derive for Quotient {
-    ghost made = { λ q k m. quotient k m (class_in q.classes.of) (class_in q.tree.classes) q.tree.count };
+impl Derived for Quotient<'_> {
+    ghost made = { λ q. quotient (keys_of q.classes.machine) (model q.classes.machine) (class_in q.classes.of) (class_found q.tree) (found_count q.tree) };
 
-    fn states(&self, _m: Machine) -> usize {
-        self.tree.count
+    ghost made_keys = { λ q. keys_of q.classes.machine };
+
+    ghost writable = { λ q. q.writable };
+
+    fn states(&self) -> usize {
+        self.tree.found.len()
     }
 
-    fn target(&self, m: Machine, state: usize, key: usize) -> usize {
-        let class = self.tree.classes[state];
-        self.tree.place(class_behind(m, self.classes, class, key))
+    fn keys(&self) -> usize {
+        self.classes.machine.keys()
     }
 
-    fn output(&self, m: Machine, state: usize, key: usize) -> u64 {
-        m.output(self.tree.classes[state], key)
+    fn step(&self, state: usize, key: usize) -> Step {
+        let class = self.tree.class(state);
+        let place = self.tree.find(self.classes.behind(class, key));
+        Step {
+            to: place.unwrap_or(self.tree.found.len()),
+            output: self.classes.machine.output(class, key),
+        }
     }
 }
 
@@ -38,9 +48,8 @@ pub fn minimize(row: &[u64], out: &mut [u64]) -> Result<u64, Refusal>
     ensures minimized { Minimized row.now out.old result out.new }
     ensures reads_back { MinimalReadsBack row.now result out.new }
 {
-    let shape = read(row)?;
-    let m = Machine::over(row, shape);
-    let classes = classify(m);
-    let tree = search(m, classes);
-    write_machine(&Quotient { classes, tree }, m, out)
+    let m = Machine::read(row)?;
+    let classes = Classes::of_equivalent(m);
+    let tree = classes.search();
+    write_machine(&Quotient { classes, tree }, out)
 }

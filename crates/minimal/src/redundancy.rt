@@ -4,7 +4,7 @@ ghost use Rattle.machine.specs.Machine.{Minimal};
 ghost use Rattle.machine.specs.Run.{model, keys_of};
 ghost use Rattle.minimal.specs.Minimal.{FirstRedundant};
 
-use crate::levels::classify;
+use crate::classes::Classes;
 use crate::searching::reach;
 use machine::Machine;
 
@@ -12,11 +12,10 @@ use machine::Machine;
 pub fn redundant(m: Machine) -> Option<usize>
     ensures { elim result [ None ↦ Minimal (keys_of m.entry) (model m.entry) | Some s ↦ FirstRedundant (keys_of m.entry) (model m.entry) s ] }
 {
-    let classes = classify(m);
+    let classes = Classes::of_equivalent(m);
     let tree = reach(m);
     for state in 0..m.states() {
-        let place = tree.place(state);
-        if classes.of[state] < state || place >= tree.count {
+        if classes.of[state] < state || tree.find(state).is_none() {
             return Some(state);
         }
     }

@@ -1,89 +1,72 @@
 // Breadth first search over classes of states, keys in order: each class is found by the first word in order that reaches it.
-ghost use Rattle.std.specs.Prelude.{◌≡◌, ◌+◌, ◌<◌, slice_set};
+ghost use Rattle.std.specs.Prelude.{◌≡◌, ◌<◌, ◌≤◌, [], ◌∷◌, position, ◌==◌};
 ghost use Rattle.machine.specs.Machine.{after};
 ghost use Rattle.machine.specs.Run.{model, keys_of};
 ghost use Rattle.minimal.specs.Levels.{class_in};
-ghost use Rattle.minimal.specs.Quotient.{Congruence, class_after, place};
-ghost use Rattle.minimal.specs.Search.{SearchTree};
+ghost use Rattle.minimal.specs.Quotient.{Congruence, class_after};
+ghost use Rattle.minimal.specs.Search.{class_found, found_count, SearchTree};
 
 use crate::classes::Classes;
-use crate::levels::{apart, class_behind};
-use crate::tree::Tree;
+use crate::tree::{Found, Tree};
+use arrayvec::ArrayVec;
 use machine::Machine;
 
 impl Tree {
     // The class from which the search begins.
     fn root(class: usize) -> Tree
-        ensures { (result.count ≡ 1) × (class_in result.classes 0 ≡ class) }
+        ensures { result.found.items ≡ record { class = class; parent = 0; key = 0 } ∷ [] }
     {
-        let mut classes = [0; 16];
-        classes[0] = class;
-        Tree {
-            count: 1,
-            classes,
-            parents: [0; 16],
-            keys: [0; 16],
-        }
+        let mut found = ArrayVec::new();
+        found.push(Found {
+            class,
+            parent: 0,
+            key: 0,
+        });
+        Tree { found }
     }
 
-    // Where a class stands among those found: behind them, if it is not there.
-    pub fn place(self, class: usize) -> usize
-        ensures { result ≡ place (class_in self.classes) self.count class }
+    // The class that was found at a place.
+    pub(crate) fn class(&self, place: usize) -> usize
+        requires { place < found_count self.now }
+        ensures { result ≡ class_found self.now place }
     {
-        for j in 0..self.count {
-            if self.classes[j] == class {
-                return j;
-            }
-        }
-        self.count
+        self.found[place].class
     }
 
-    // One class more.
-    fn with(self, class: usize, parent: usize, key: usize) -> Tree
-        requires { self.count < 16 }
-        ensures count_value { result.count ≡ self.count + 1 }
-        ensures classes_value { result.classes ≡ slice_set self.classes self.count class }
-        ensures parents_value { result.parents ≡ slice_set self.parents self.count parent }
-        ensures keys_value { result.keys ≡ slice_set self.keys self.count key }
+    // Where a class stands among those found.
+    pub fn find(&self, class: usize) -> Option<usize>
+        ensures { result ≡ position (λ found. found.class == class) self.now.found.items }
     {
-        let mut classes = self.classes;
-        let mut parents = self.parents;
-        let mut keys = self.keys;
-        classes[self.count] = class;
-        parents[self.count] = parent;
-        keys[self.count] = key;
-        Tree {
-            count: self.count + 1,
-            classes,
-            parents,
-            keys,
-        }
+        self.found.iter().position(|found| found.class == class)
     }
 }
 
-// The classes that can be reached, in the order in which words in order first reach them.
-pub(crate) fn search(m: Machine, classes: Classes) -> Tree
-    requires { Congruence (keys_of m) (model m) (class_in classes.of) }
-    ensures { SearchTree (keys_of m.entry) (class_after (class_in classes.of) (model m.entry)) result }
-{
-    let mut tree = Tree::root(classes.of[0]);
-    let mut parent = 0;
-    'parents: while parent < tree.count {
-        'keys: for key in 0..m.keys() {
-            let class = class_behind(m, classes, tree.classes[parent], key);
-            if tree.place(class) < tree.count {
-                continue 'keys;
+impl Classes<'_> {
+    // The classes that can be reached, in the order in which words in order first reach them.
+    pub(crate) fn search(self) -> Tree
+        requires { Congruence (keys_of self.machine) (model self.machine) (class_in self.of) }
+        ensures found { SearchTree (keys_of self.entry.machine) (class_after (class_in self.entry.of) (model self.entry.machine)) result }
+        ensures few { found_count result ≤ 16 }
+    {
+        let mut tree = Tree::root(self.of[0]);
+        let mut parent = 0;
+        // by number, since the tree grows while it is gone through
+        while parent < tree.found.len() {
+            for key in 0..self.machine.keys() {
+                let class = self.behind(tree.class(parent), key);
+                if tree.find(class).is_none() {
+                    tree.found.push(Found { class, parent, key });
+                }
             }
-            tree = tree.with(class, parent, key);
+            parent += 1;
         }
-        parent += 1;
+        tree
     }
-    tree
 }
 
 // The states that can be reached, each with the first word in order that reaches it.
 pub fn reach(m: Machine) -> Tree
     ensures { SearchTree (keys_of m.entry) (after (model m.entry) 0) result }
 {
-    search(m, apart())
+    Classes::apart(m).search()
 }

@@ -1,15 +1,16 @@
 // The classes that a breadth first search found.
-ghost use Rattle.std.specs.Prelude.{◌≡◌, ◌≤◌, length};
+use arrayvec::ArrayVec;
 
-// Each but the first was found from an earlier one, its parent, by a key.
-#[derive(Clone, Copy)]
+// A class, and where it is not the first the place of the class that it was found from, its parent, and the key that led there.
+#[derive(Clone, Copy, Default)]
+pub struct Found {
+    pub class: usize,
+    pub parent: usize,
+    pub key: usize,
+}
+
+// At most sixteen classes, in the order in which they were found.
+#[derive(Drop)]
 pub struct Tree {
-    pub count: usize,
-    pub classes: [usize; 16],
-    pub parents: [usize; 16],
-    pub keys: [usize; 16],
-    ghost few: { count ≤ 16 },
-    ghost long: { length classes ≡ 16 },
-    ghost wide: { length parents ≡ 16 },
-    ghost deep: { length keys ≡ 16 },
+    pub found: ArrayVec<Found, 16>,
 }

@@ -1,13 +1,12 @@
 use Rattle.std.proofs.Common.{ap, ◌∙◌}
 use Rattle.machine.specs.Row.{keys_in, machine_in}
-use Rattle.machine.specs.Run.{model, keys_of}
 use Rattle.machine.proofs.Written.{written_keys, read_back}
 use Rattle.machine.proofs.making.write_machine.Goals as goal
 
 pub returns-clause-reads_back : goal.returns-clause-reads_back
 returns-clause-reads_back g c =
-    let k = keys_of c.args.m in
-    let made = g.D.Derive.made c.args.way.now k (model c.args.m) in
+    let k = g.D.Derived.made_keys c.args.machine.now in
+    let made = g.D.Derived.made c.args.machine.now in
     let row = c.write.ensures in
-    let full = c.requires.full in
+    let full = (g.met.D.Derived.writable c.args.machine.now).full in
     (ap machine_in row ∙ read_back k made full _, ap keys_in row ∙ written_keys k made full _)

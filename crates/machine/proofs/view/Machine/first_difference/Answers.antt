@@ -16,8 +16,8 @@ returns-then-i-seen c =
     let w = c.args.word.now in
     let seen = c.args.seen.now in
     let i = c.loop-i.i in
-    let shows : c.output-expected.result ≡ get_or (outputs m 0 w) i 0 =
-    c.output-expected.ensures.value ∙ ap (λ s. (move m s (get_or w i 0)).output) c.loop-i.invariant.0 ∙ sym (outputs_at m 0 w i c.loop-i-test.true) in
+    let shows : c.step-step.result.output ≡ get_or (outputs m 0 w) i 0 =
+    c.step-step.ensures.output ∙ ap (λ s. (move m s (get_or w i 0)).output) c.loop-i.invariant.0 ∙ sym (outputs_at m 0 w i c.loop-i-test.true) in
     let differs : differs_at (outputs m 0 w) seen i ≡ true =
     elim c.then-i-seen.branch [
       | then-i-seen-via-then-i-seen way ↦ unseen (outputs m 0 w) seen i way.if-i-seen.true
@@ -31,10 +31,10 @@ loop-i-preserved c =
     let m = model c.args.self in
     let w = c.args.word.now in
     let i = c.loop-i.i in (
-      c.next-state.ensures.value ∙ ap (λ s. (move m s (get_or w i 0)).to) c.loop-i.invariant.0 ∙ sym (after_more m 0 w i c.loop-i-test.true),
+      c.step-step.ensures.to ∙ ap (λ s. (move m s (get_or w i 0)).to) c.loop-i.invariant.0 ∙ sym (after_more m 0 w i c.loop-i-test.true),
       below_more _ _ c.loop-i.invariant.1
           (seen_same (outputs m 0 w) c.args.seen.now i c.if-i-seen.false
-          (c.if-seen-i.false ∙ c.output-expected.ensures.value ∙ ap (λ s. (move m s (get_or w i 0)).output) c.loop-i.invariant.0 ∙ sym (outputs_at m 0 w i c.loop-i-test.true))),
+          (c.if-seen-i.false ∙ c.step-step.ensures.output ∙ ap (λ s. (move m s (get_or w i 0)).output) c.loop-i.invariant.0 ∙ sym (outputs_at m 0 w i c.loop-i-test.true))),
     )
 
 pub returns : goal.returns

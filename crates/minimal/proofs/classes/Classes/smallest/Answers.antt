@@ -1,0 +1,23 @@
+use Rattle.std.proofs.Common.{inl, inr, arith, below_more}
+use Rattle.machine.specs.Run.{model}
+use Rattle.minimal.proofs.Refined.{finer_is, finer_itself, other_output, other_class}
+use Rattle.minimal.proofs.classes.Classes.smallest.Goals as goal
+
+pub others-preserved : goal.others-preserved
+others-preserved c =
+    let m = model c.args.self.machine in
+    let of = c.args.self.of in
+    below_more _ _ c.loop-key.invariant.0 (
+      c.loop-key.key,
+      omega arith,
+      elim c.if-not-same_class.either [
+        | inl a ↦ other_class m of c.others.other c.args.state c.loop-key.key _ _ c.behind.ensures c.behind-in-loop-key.ensures a.1
+        | inr b ↦ other_output m of c.others.other c.args.state c.loop-key.key _ _ c.output.ensures.value c.output-in-loop-key.ensures.value b
+      ],
+    )
+
+pub returns-in-others : goal.returns-in-others
+returns-in-others c = finer_is _ _ _ _ _ c.others-test.true (λ x l. c.loop-key.invariant.1 x (omega arith)) c.loop-key.invariant.0
+
+pub returns : goal.returns
+returns c = finer_itself _ _ _ _ (λ u l. c.others.invariant u (omega arith))
