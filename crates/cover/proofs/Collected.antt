@@ -1,18 +1,19 @@
--- Collecting the words of all pairs of states, each once, into an array: what holds before each pair. Assumes nothing.
-use Rattle.std.proofs.Common.{◌≡◌, ℕ, zero, suc, ◌+◌, ◌<◌, ◌≤◌, List, [], ◌∷◌, ◌++◌, map, length, get_or, take, set, sym, refl, ap, ◌∙◌, ap₂, inl, inr, append_assoc, append-nil, add-one, arith, length-append}
+-- Collecting the words of all pairs of states, each once, into a vector: what holds before each pair. Assumes nothing.
+use Rattle.std.proofs.Common.{◌≡◌, ℕ, zero, suc, ◌+◌, ◌<◌, ◌≤◌, Bool, List, [], ◌∷◌, ◌++◌, map, length, Decides, IsTrue, nat_eq, sym, refl, ap, ◌∙◌, ap₂, inl, inr, append_assoc, append-nil, add-one, arith, length-append}
 use mathlib.Core.List.Memᴰ
 use lib.ListN.{length-map}
-use Rattle.std.specs.List.{range_with_len, flat_map}
+use Rattle.std.specs.Cmp.Lexicographic.{pointwise}
+use Rattle.std.specs.List.{range_with_len, flat_map, list_any}
 use Rattle.std.proofs.lemmas.List.FromFn.{length-map-range_with_len, map-range_with_len_more}
-use Rattle.std.proofs.lemmas.List.{get_or-map, get_or-take, map-id, map_push, length-set, length-take-le, take_more_set, flat_map_more}
-use Rattle.std.proofs.lemmas.Bool.{cases_lt}
-use Rattle.machine.specs.Machine.{Machine, Word as Keyword}
-use Rattle.machine.specs.Words.{once_from}
-use Rattle.machine.proofs.Members.{in_get_or, in_has}
+use Rattle.std.proofs.lemmas.List.{map-id, map_push, flat_map_more}
+use Rattle.std.proofs.lemmas.Slice.Eq.{bytes_eq-Decides}
+use Rattle.std.proofs.lemmas.Bool.{cases_Bool, cases_lt, both_ways}
+use Rattle.arrayvec.specs.ArrayVec.{ArrayVec}
+use Rattle.machine.specs.Machine.{Machine, Word}
+use Rattle.machine.specs.Words.{In, once_from}
 use Rattle.machine.proofs.Once.{once_again, once_new, length_once}
 use Rattle.cover.specs.Cover.{telling_words}
 use Rattle.cover.specs.Words.{word_of, words_of}
-use Rattle.cover.specs.declared.words.Word.{Word}
 use Rattle.cover.proofs.Telling.{telling_word}
 
 -- how many pairs of states below n there are
@@ -32,15 +33,15 @@ pairs_grow a (suc b) h =
 
 module _ (k : ℕ) (m : Machine) where
   -- the words of state s with the states below it
-  row : ℕ → List Keyword
+  row : ℕ → List Word
   row s = map (λ t. telling_word k m t s) (range_with_len 0 s)
 
   -- the words of the pairs of states below s
-  rows : ℕ → List Keyword
+  rows : ℕ → List Word
   rows s = flat_map row (range_with_len 0 s)
 
   -- the words of the pairs of states below s, and of s with the states below t
-  pub told_to : ℕ → ℕ → List Keyword
+  pub told_to : ℕ → ℕ → List Word
   told_to s t = rows s ++ map (λ t. telling_word k m t s) (range_with_len 0 t)
 
   -- with one pair more there is its word more
@@ -85,69 +86,61 @@ module _ (k : ℕ) (m : Machine) where
   unfolding told_to
   length_told s t = length-append (rows s) (map (λ t. telling_word k m t s) (range_with_len 0 t)) ∙ ap₂ ◌+◌ (length_rows s) (length-map-range_with_len (λ t. telling_word k m t s) 0 t)
 
--- the first count of the words are those told so far, each once
-pub record KeptTo (k : ℕ) (m : Machine) (s t : ℕ) (ws : List Word) (count : ℕ) : Type 0 where
-  pub long : length ws ≡ 120
-  pub room : count ≤ 120
-  pub kept : words_of (take count ws) ≡ once_from [] (told_to k m s t)
+-- looking for the keys of a word among those of some words answers whether they stand there
+looking_decides : (w : ArrayVec ℕ) (ws : List (ArrayVec ℕ)) → Decides (list_any (λ v. pointwise nat_eq v.items w.items) ws) (In (word_of w) (words_of ws))
+looking_decides w [] = (λ e. absurd (both_ways _ refl e), λ i. absurd (Memᴰ.not-nil i))
+looking_decides w (v ∷ ws) =
+    let here = bytes_eq-Decides v.items w.items in
+    let rest = looking_decides w ws in
+    elim (cases_Bool (pointwise nat_eq v.items w.items)) [
+      | inl y ↦ rw y (λ _. Memᴰ.head (sym (here.0 y)), λ _. refl)
+      | inr n ↦ rw n (λ e. Memᴰ.tail (rest.0 e), λ i. elim (Memᴰ.cases_cons i) [ inl e ↦ absurd (both_ways _ n (here.1 (sym e))) | inr t ↦ rest.1 t ])
+    ]
+
+-- the same of the answer
+pub looking_answers :
+    (w : ArrayVec ℕ) (ws : List (ArrayVec ℕ)) (r : Bool) → r ≡ list_any (λ v. pointwise nat_eq v.items w.items) ws →
+    (IsTrue r → In (word_of w) (words_of ws)) × (In (word_of w) (words_of ws) → IsTrue r)
+looking_answers w ws r is = let d = looking_decides w ws in (λ y. d.0 (sym is ∙ y), λ i. is ∙ d.1 i)
+
+-- the words are those told so far, each once
+abbrev pub KeptTo : ℕ → Machine → ℕ → ℕ → List (ArrayVec ℕ) → Type 0
+KeptTo k m s t ws = words_of ws ≡ once_from [] (told_to k m s t)
 
 module _ (k : ℕ) (m : Machine) where
   -- at the beginning no word is kept
-  pub kept_starts : (ws : List Word) → length ws ≡ 120 → KeptTo k m 0 0 ws 0
+  pub kept_starts : (ws : List (ArrayVec ℕ)) → ws ≡ [] → KeptTo k m 0 0 ws
   unfolding once_from
-  kept_starts ws long = record { long = long; room = omega arith; kept = rw (told_none k m) }
+  kept_starts ws none = rw (none, told_none k m) refl
 
   -- with all states below s told from it the next state begins
-  pub kept_row : (s : ℕ) (ws : List Word) (count : ℕ) → KeptTo k m s s ws count → KeptTo k m (s + 1) 0 ws count
-  kept_row s ws count h = record { long = h.long; room = h.room; kept = rw (told_row k m s) h.kept }
+  pub kept_row : (s : ℕ) (ws : List (ArrayVec ℕ)) → KeptTo k m s s ws → KeptTo k m (s + 1) 0 ws
+  kept_row s ws h = rw (told_row k m s) h
 
-  module _ (s t : ℕ) (ws : List Word) (count : ℕ) (h : KeptTo k m s t ws count) where
-    -- so many words are kept
-    length_kept : length (words_of (take count ws)) ≡ count
-    length_kept = let room = h.room in let long = h.long in length-map (take count ws) word_of ∙ length-take-le count ws (omega arith)
+  -- all pairs were told
+  pub kept_all : (ws : List (ArrayVec ℕ)) → KeptTo k m (length m) 0 ws → words_of ws ≡ once_from [] (telling_words k m)
+  kept_all ws h = h ∙ ap (once_from []) (told_all k m)
 
-    -- a word that is read out of the array
-    pub kept_at : (i : ℕ) (d : Word) → i < count → get_or (words_of (take count ws)) i [] ≡ word_of (get_or ws i d)
-    kept_at i d l =
-        let room = h.room in
-        let long = h.long in
-        get_or-map word_of (take count ws) i d [] (rw (length-take-le count ws (omega arith)) l) ∙ ap word_of (get_or-take count ws i d l)
-
+  module _ (s t : ℕ) (ws : List (ArrayVec ℕ)) (h : KeptTo k m s t ws) where
     -- there is room for one word more
-    pub kept_room : s < 16 → t < s → count < 120
+    pub kept_room : s < 16 → t < s → length ws < 120
     unfolding pairs
     kept_room hs ht =
-        let a = length_kept in
-        let b = ap length h.kept in
+        let a = length-map ws word_of in
+        let b = ap length h in
         let c = length_once [] (told_to k m s t) in
         let d = length_told k m s t in
         let e = pairs_grow (suc s) 16 (omega arith) in
         omega arith
 
     -- the word of the next pair was kept before
-    pub kept_again : (i : ℕ) → i < count → get_or (words_of (take count ws)) i [] ≡ telling_word k m t s → KeptTo k m s (t + 1) ws count
-    kept_again i l e = record {
-      long = h.long;
-      room = h.room;
-      kept = h.kept ∙ sym (ap (once_from []) (told_more k m s t)
-          ∙ once_again [] (told_to k m s t) (telling_word k m t s) (inr (rw (← h.kept, ← e) (in_get_or (words_of (take count ws)) i (rw length_kept l)))));
-    }
+    pub kept_again : (w : Word) → w ≡ telling_word k m t s → In w (words_of ws) → KeptTo k m s (t + 1) ws
+    kept_again w is there =
+        h ∙ sym (ap (once_from []) (told_more k m s t) ∙ once_again [] (told_to k m s t) (telling_word k m t s) (inr (rw (← h, ← is) there)))
 
     -- or is new
-    pub kept_more :
-        (w : Word) → word_of w ≡ telling_word k m t s → count < 120 → ((i : ℕ) → i < count → get_or (words_of (take count ws)) i [] ≡ telling_word k m t s → ⊥) →
-        KeptTo k m s (t + 1) (set ws count w) (count + 1)
-    kept_more w e room new = record {
-      long = length-set ws count w ∙ h.long;
-      room = omega arith;
-      kept = ap words_of (take_more_set ws count w (let l = h.long in omega arith))
-          ∙ map_push word_of (take count ws) w
-          ∙ ap₂ (λ a b. a ++ b ∷ []) h.kept e
-          ∙ sym (ap (once_from []) (told_more k m s t)
-          ∙ once_new [] (told_to k m s t) (telling_word k m t s) Memᴰ.not-nil
-          (λ g. let r = in_has (rw (← h.kept) at g) in new r.0 (let l = r.1 in let n = length_kept in omega arith) (r.2 [])));
-    }
-
-  -- all pairs were told
-  pub kept_all : (ws : List Word) (count : ℕ) → KeptTo k m (length m) 0 ws count → words_of (take count ws) ≡ once_from [] (telling_words k m)
-  kept_all ws count h = h.kept ∙ ap (once_from []) (told_all k m)
+    pub kept_more : (w : ArrayVec ℕ) → word_of w ≡ telling_word k m t s → (In (word_of w) (words_of ws) → ⊥) → KeptTo k m s (t + 1) (ws ++ w ∷ [])
+    kept_more w is new =
+        map_push word_of ws w
+        ∙ ap₂ (λ a b. a ++ b ∷ []) h is
+        ∙ sym (ap (once_from []) (told_more k m s t) ∙ once_new [] (told_to k m s t) (telling_word k m t s) Memᴰ.not-nil (λ g. new (rw (h, is) g)))

@@ -1,5 +1,5 @@
 -- Making the first word that tells two states apart key by key: what holds before each key. Assumes nothing.
-use Rattle.std.proofs.Common.{◌≡◌, ℕ, zero, suc, ◌+◌, ◌<◌, true, false, [], ◌∷◌, ◌++◌, length, sym, refl, ap, ◌∙◌, inl, inr, append_assoc, append-nil, arith}
+use Rattle.std.proofs.Common.{◌≡◌, ℕ, zero, suc, ◌+◌, ◌<◌, true, false, [], ◌∷◌, ◌++◌, length, sym, refl, ap, ◌∙◌, inl, inr, append_assoc, append-nil, length-append, arith}
 use Rattle.std.proofs.lemmas.Bool.{cases_Bool, cases_lt, both_ways}
 use Rattle.machine.specs.Machine.{Machine, Word, move}
 use Rattle.minimal.specs.Levels.{alike, agrees_on}
@@ -8,11 +8,11 @@ use Rattle.cover.specs.Levels.{level}
 use Rattle.cover.proofs.Entries.{level_alike, alike_level}
 use Rattle.cover.proofs.Telling.{Apart, FirstKey, Left, rest_of, telling_word, telling_step, agrees, disagrees}
 
--- word w of len keys was made, so many are left, and p and q are the states behind it
-pub record Turn (k : ℕ) (m : Machine) (t s : ℕ) (len left p q : ℕ) (w : Word) : Type 0 where
+-- word w was made, so many keys are left, and p and q are the states behind it
+pub record Turn (k : ℕ) (m : Machine) (t s : ℕ) (left p q : ℕ) (w : Word) : Type 0 where
   pub first : p < length m
   pub second : q < length m
-  pub short : len + left < length m
+  pub short : length w + left < length m
   pub apart : Left k m left p q
   pub made : w ++ rest_of k m left p q ≡ telling_word k m t s
 
@@ -34,15 +34,15 @@ module _ (k : ℕ) (m : Machine) (t s : ℕ) where
 
   -- at the beginning nothing was made, and as many keys are left as the level says
   pub turn_starts :
-      (len left : ℕ) (w : Word) → t < length m → s < length m → level k m (length m) t s < length m → left ≡ level k m (length m) t s → len ≡ 0 → w ≡ [] →
-      Turn k m t s len left t s w
-  turn_starts len left w ht hs low is none empty = go (level k m (length m) t s) refl
+      (left : ℕ) (w : Word) → t < length m → s < length m → level k m (length m) t s < length m → left ≡ level k m (length m) t s → w ≡ [] →
+      Turn k m t s left t s w
+  turn_starts left w ht hs low is empty = go (level k m (length m) t s) refl
     where
-      go : (l : ℕ) → level k m (length m) t s ≡ l → Turn k m t s len left t s w
+      go : (l : ℕ) → level k m (length m) t s ≡ l → Turn k m t s left t s w
       go zero e = absurd (let l = alike_level k m (length m) 0 t s (omega arith) (alike_zero k m t s) in omega arith)
-      go (suc j) e = rw (is ∙ e) (record { first = ht; second = hs; short = omega arith; apart = apart_from_level j e (omega arith); made = rw empty })
+      go (suc j) e = rw (is ∙ e, empty) (record { first = ht; second = hs; short = omega arith; apart = apart_from_level j e (omega arith); made = refl })
 
-  module _ (len left j p q : ℕ) (w : Word) (e : left ≡ suc j) (turn : Turn k m t s len left p q w) where
+  module _ (left j p q : ℕ) (w : Word) (e : left ≡ suc j) (turn : Turn k m t s left p q w) where
     -- with j + 1 keys left the states are apart at level j + 1
     here : Apart k m j p q
     here = rw e at turn.apart
@@ -53,21 +53,21 @@ module _ (k : ℕ) (m : Machine) (t s : ℕ) where
 
     -- one key more: the smallest that does not agree
     pub turn_goes :
-        (x len' p' q' : ℕ) (w' : Word) → x < k → agrees_on k m j p q x ≡ false → ((y : ℕ) → y < x → agrees_on k m j p q y ≡ true) →
-        p' ≡ (move m p x).to → q' ≡ (move m q x).to → p' < length m → q' < length m → len' ≡ len + 1 → w' ≡ w ++ x ∷ [] →
-        Turn k m t s len' j p' q' w'
-    turn_goes x len' p' q' w' inside disagrees_here none to_p to_q hp hq longer with_key =
+        (x p' q' : ℕ) (w' : Word) → x < k → agrees_on k m j p q x ≡ false → ((y : ℕ) → y < x → agrees_on k m j p q y ≡ true) →
+        p' ≡ (move m p x).to → q' ≡ (move m q x).to → p' < length m → q' < length m → w' ≡ w ++ x ∷ [] →
+        Turn k m t s j p' q' w'
+    turn_goes x p' q' w' inside disagrees_here none to_p to_q hp hq with_key =
         let short = turn.short in
         let key : FirstKey k m j p q x = record { inside = inside; here = disagrees k m j p q x disagrees_here; none = λ y l. agrees k m j p q y (none y l) } in
         let step = telling_step k m j p q x (omega arith) here key in
         record {
           first = hp;
           second = hq;
-          short = omega arith;
+          short = rw with_key (omega (arith, length-append w (x ∷ [])));
           apart = rw (to_p, to_q) step.1;
           made = rw (with_key, to_p, to_q) (append_assoc w (x ∷ []) (rest_of k m j (move m p x).to (move m q x).to) ∙ ap (λ z. w ++ z) (sym step.0) ∙ rw e at turn.made);
         }
 
   -- with no key left the word is made
-  pub turn_ends : (len left p q : ℕ) (w : Word) → left ≡ 0 → Turn k m t s len left p q w → w ≡ telling_word k m t s
-  turn_ends len left p q w e turn = sym (append-nil w) ∙ rw e at turn.made
+  pub turn_ends : (left p q : ℕ) (w : Word) → left ≡ 0 → Turn k m t s left p q w → w ≡ telling_word k m t s
+  turn_ends left p q w e turn = sym (append-nil w) ∙ rw e at turn.made

@@ -1,6 +1,5 @@
 pub mod Access
 pub mod Collected
-pub mod Compared
 pub mod Entries
 pub mod Greedy
 pub mod Reached

@@ -1,12 +1,12 @@
 -- The two lists of words that a cover by value holds. Assumes nothing: these are definitions.
-use Rattle.std.specs.Prelude.{ℕ, List, take}
+use Rattle.std.specs.Prelude.{ℕ, List}
 use Rattle.cover.specs.Words.{words_of}
 use Rattle.cover.specs.declared.cover.Cover.{Cover}
 
 -- the access words, one for each state
 abbrev pub access_of : Cover → List (List ℕ)
-access_of c = words_of (take c.states c.access)
+access_of c = words_of c.access.items
 
--- the separating words, as many as the cover counts
+-- the separating words
 abbrev pub separating_of : Cover → List (List ℕ)
-separating_of c = words_of (take c.count c.separating)
+separating_of c = words_of c.separating.items

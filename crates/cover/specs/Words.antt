@@ -1,11 +1,11 @@
--- The word that a word by value stands for. Assumes nothing: these are definitions.
-use Rattle.std.specs.Prelude.{ℕ, List, map, take}
-use Rattle.cover.specs.declared.words.Word.{Word}
+-- The keys of a word that is kept in place. Assumes nothing: these are definitions.
+use Rattle.std.specs.Prelude.{ℕ, List, map}
+use Rattle.arrayvec.specs.ArrayVec.{ArrayVec}
 
--- the first keys of the array, as many as the word says
-abbrev pub word_of : Word → List ℕ
-word_of w = take w.len w.keys
+-- the keys of a word, in order
+abbrev pub word_of : ArrayVec ℕ → List ℕ
+word_of w = w.items
 
 -- the same for each of some words
-abbrev pub words_of : List Word → List (List ℕ)
+abbrev pub words_of : List (ArrayVec ℕ) → List (List ℕ)
 words_of ws = map word_of ws

@@ -1,17 +1,11 @@
-// The words that cover a machine, by value.
-ghost use Rattle.std.specs.Prelude.{◌≡◌, ◌≤◌, length};
+// The words that cover a machine.
 
 use crate::words::Word;
+use arrayvec::ArrayVec;
 
-// An access word for each of the first `states` states, and `count` separating words.
-#[derive(Clone, Copy)]
+// An access word for each state, by its number, and the separating words.
+#[derive(Drop)]
 pub struct Cover {
-    pub states: usize,
-    pub access: [Word; 16],
-    pub count: usize,
-    pub separating: [Word; 120],
-    ghost few: { states ≤ 16 },
-    ghost wide: { length access ≡ 16 },
-    ghost room: { count ≤ 120 },
-    ghost long: { length separating ≡ 120 },
+    pub access: ArrayVec<Word, 16>,
+    pub separating: ArrayVec<Word, 120>,
 }

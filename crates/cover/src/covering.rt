@@ -25,15 +25,8 @@ impl Cover {
         ensures once { EachOnce (separating_of result) }
         ensures short { FewerKeys (model m.entry) (access_of result) × FewerKeys (model m.entry) (separating_of result) }
     {
-        let states = m.states();
         let access = access(m);
-        let kept = separating(m);
-        let separating = kept.words;
-        Cover {
-            states,
-            access,
-            count: kept.count,
-            separating,
-        }
+        let separating = separating(m);
+        Cover { access, separating }
     }
 }

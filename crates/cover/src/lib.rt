@@ -4,13 +4,11 @@
 mod collecting;
 mod cover;
 mod covering;
-mod kept;
 mod levels;
 mod pairs;
 mod reaching;
-mod spelling;
 mod table;
 mod words;
 
 pub use cover::Cover;
-pub use words::Word;
+pub use words::{Word, followed};

@@ -36,14 +36,14 @@ pub(crate) fn telling_word(m: Machine, levels: Levels, t: usize, s: usize) -> Wo
     requires apart { level (keys_of m) (model m) (length (model m)) t s < length (model m) }
     ensures { word_of result ≡ first_telling (model m.entry) t s (up_to (keys_of m.entry) (length (model m.entry))) }
 {
-    let mut word = Word::empty();
+    let mut word = Word::new();
     let mut left = levels.at(t, s);
     let mut p = t;
     let mut q = s;
     while left > 0 {
         left -= 1;
         let x = first_key(m, levels, left, p, q);
-        word = word.with(x);
+        word.push(x as u64);
         p = m.next(p, x);
         q = m.next(q, x);
     }

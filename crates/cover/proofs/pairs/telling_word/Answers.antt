@@ -11,8 +11,8 @@ at-left-requires c = let f = few_states c.args.m in let a = c.requires.first in 
 
 pub loop-left-init : goal.loop-left-init
 loop-left-init c =
-    turn_starts c.args.m.keys (model c.args.m) c.args.t c.args.s c.empty-word.result.len c.at-left.result (word_of c.empty-word.result)
-    c.requires.first c.requires.second c.requires.apart (c.at-left.ensures ∙ c.requires.table _ _ c.requires.first c.requires.second) c.empty-word.ensures.shortest c.empty-word.ensures.value
+    turn_starts c.args.m.keys (model c.args.m) c.args.t c.args.s c.at-left.result (word_of c.new-word.result)
+    c.requires.first c.requires.second c.requires.apart (c.at-left.ensures ∙ c.requires.table _ _ c.requires.first c.requires.second) c.new-word.ensures
 
 pub first_key-x-requires : goal.first_key-x-requires
 first_key-x-requires c =
@@ -21,12 +21,12 @@ first_key-x-requires c =
     let short = c.loop-left.invariant.short in
     record {
       table = levels_tell m.keys (model m) (length (model m)) (c.loop-left.left - 1) c.args.levels.entries (omega arith) c.requires.table;
-      apart = turn_apart m.keys (model m) c.args.t c.args.s c.loop-left.word.len c.loop-left.left (c.loop-left.left - 1) c.loop-left.p c.loop-left.q
+      apart = turn_apart m.keys (model m) c.args.t c.args.s c.loop-left.left (c.loop-left.left - 1) c.loop-left.p c.loop-left.q
           (word_of c.loop-left.word) (omega arith) c.loop-left.invariant;
     }
 
-pub with-word-requires : goal.with-word-requires
-with-word-requires c = let f = few_states c.args.m in let short = c.loop-left.invariant.short in omega arith
+pub push-requires : goal.push-requires
+push-requires c = let f = few_states c.args.m in let short = c.loop-left.invariant.short in omega arith
 
 pub loop-left-preserved : goal.loop-left-preserved
 loop-left-preserved c =
@@ -34,13 +34,13 @@ loop-left-preserved c =
     let some = c.loop-left-test.true in
     let key = c.first_key-x.ensures in
     let same : c.loop-left.left ≡ suc (c.loop-left.left - 1) = omega arith in
-    turn_goes m.keys (model m) c.args.t c.args.s c.loop-left.word.len c.loop-left.left (c.loop-left.left - 1) c.loop-left.p c.loop-left.q
-    (word_of c.loop-left.word) same c.loop-left.invariant c.first_key-x.result c.with-word.result.len c.next-p.result c.next-q.result (word_of c.with-word.result)
+    turn_goes m.keys (model m) c.args.t c.args.s c.loop-left.left (c.loop-left.left - 1) c.loop-left.p c.loop-left.q
+    (word_of c.loop-left.word) same c.loop-left.invariant c.first_key-x.result c.next-p.result c.next-q.result (word_of c.push.new.self)
     key.inside key.disagrees key.smallest c.next-p.ensures.value c.next-q.ensures.value c.next-p.ensures.inside c.next-q.ensures.inside
-    c.with-word.ensures.longer c.with-word.ensures.value
+    c.push.ensures.items
 
 pub returns : goal.returns
 returns c =
     let m = c.args.m in
     let none = c.loop-left-test.false in
-    turn_ends m.keys (model m) c.args.t c.args.s c.loop-left.word.len c.loop-left.left c.loop-left.p c.loop-left.q (word_of c.loop-left.word) (omega arith) c.loop-left.invariant
+    turn_ends m.keys (model m) c.args.t c.args.s c.loop-left.left c.loop-left.p c.loop-left.q (word_of c.loop-left.word) (omega arith) c.loop-left.invariant

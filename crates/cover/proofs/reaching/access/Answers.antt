@@ -1,73 +1,77 @@
-use Rattle.std.proofs.Common.{get_or, arith}
+use Rattle.std.proofs.Common.{◌<◌, [], ◌∷◌, ◌++◌, length, get_or, ap, ◌∙◌, arith}
+use lib.ListN.{length-map}
 use Rattle.machine.specs.Run.{model}
 use Rattle.machine.proofs.Views.{view_proper, few_states}
-use Rattle.cover.proofs.Reached.{found_inside, parent_inside, placed_short, placed_more, placed_all}
+use Rattle.cover.specs.Words.{word_of, words_of}
+use Rattle.cover.proofs.Reached.{parent_of, found_inside, parent_inside, placed_first, parent_short, placed_more, placed_all, word_read, word_written}
 use Rattle.cover.proofs.reaching.access.Goals as goal
 
-pub offset_bounds-words-parent : goal.offset_bounds-words-parent
-offset_bounds-words-parent c =
+pub unreached-words-requires : goal.unreached-words-requires
+unreached-words-requires c = let f = few_states c.args.m in let e = c.states.ensures in omega arith
+
+pub loop-j-init : goal.loop-j-init
+loop-j-init c =
     let m = c.args.m in
-    let t = c.reach-tree.ensures in
+    placed_first m.keys (model m) (view_proper m) c.reach-tree.result c.reach-tree.ensures c.states.result (words_of c.unreached-words.result.items) c.states.ensures c.unreached-words.ensures
+
+pub offset_bounds-deref-parent : goal.offset_bounds-deref-parent
+offset_bounds-deref-parent c =
+    let m = c.args.m in
     let few = few_states m in
-    let l = parent_inside m.keys (model m) (view_proper m) few c.reach-tree.result t.0 t.1 t.2 c.loop-j.j (let b = c.loop-j.auto.j in omega arith) c.loop-j-test.true in
+    let l = parent_inside m.keys (model m) (view_proper m) c.reach-tree.result c.reach-tree.ensures c.loop-j.j c.loop-j.auto.j c.loop-j-test.true in
     omega arith
 
-pub listed : goal.listed
-listed c =
+pub bounds-deref-parent : goal.bounds-deref-parent
+bounds-deref-parent c =
     let m = c.args.m in
-    let t = c.reach-tree.ensures in
-    let few = few_states m in
-    let long = c.loop-j.invariant.0 in
-    let l = parent_inside m.keys (model m) (view_proper m) few c.reach-tree.result t.0 t.1 t.2 c.loop-j.j (let b = c.loop-j.auto.j in omega arith) c.loop-j-test.true in
+    let l = parent_inside m.keys (model m) (view_proper m) c.reach-tree.result c.reach-tree.ensures c.loop-j.j c.loop-j.auto.j c.loop-j-test.true in
+    let n = c.loop-j.invariant.0 in
+    let e = ap length c.deref.ensures.0 in
+    let s = length-map c.loop-j.words.items word_of in
     omega arith
 
-pub bounds-words-parent : goal.bounds-words-parent
-bounds-words-parent c =
+pub followed-requires : goal.followed-requires
+followed-requires c =
     let m = c.args.m in
-    let t = c.reach-tree.ensures in
-    let few = few_states m in
-    let l = parent_inside m.keys (model m) (view_proper m) few c.reach-tree.result t.0 t.1 t.2 c.loop-j.j (let b = c.loop-j.auto.j in omega arith) c.loop-j-test.true in
-    omega arith
-
-pub with-requires : goal.with-requires
-with-requires c =
-    let m = c.args.m in
-    let t = c.reach-tree.ensures in
-    let p = get_or c.reach-tree.result.parents c.loop-j.j 0 in
-    let before = t.2.parents c.loop-j.j (let b = c.loop-j.auto.j in omega arith) c.loop-j-test.true in
+    let l : parent_of c.reach-tree.result c.loop-j.j < length (words_of c.loop-j.words.items) =
+    let n = c.loop-j.invariant.0 in
+    let i = parent_inside m.keys (model m) (view_proper m) c.reach-tree.result c.reach-tree.ensures c.loop-j.j c.loop-j.auto.j c.loop-j-test.true in
+    omega arith in
+    let e = ap length (word_read c.loop-j.words c.deref.result.now (parent_of c.reach-tree.result c.loop-j.j) c.index-deref-parent.result c.deref.ensures.0 l c.index-deref-parent.is) in
+    let short = parent_short m.keys (model m) (view_proper m) c.reach-tree.result c.reach-tree.ensures c.loop-j.j (words_of c.loop-j.words.items) c.loop-j.invariant c.loop-j.auto.j c.loop-j-test.true in
     let few = c.reach-tree.result.few in
-    let last = c.loop-j-test.true in
-    let short = placed_short m.keys (model m) (view_proper m) (few_states m) c.reach-tree.result t.0 t.1 t.2 c.loop-j.j c.loop-j.words c.loop-j.invariant
-    p c.index-words-parent.result before (omega arith) in
     omega arith
 
-pub offset_bounds-words-tree : goal.offset_bounds-words-tree
-offset_bounds-words-tree c =
+pub offset_bounds-deref_mut-tree : goal.offset_bounds-deref_mut-tree
+offset_bounds-deref_mut-tree c =
     let m = c.args.m in
-    let t = c.reach-tree.ensures in
     let few = few_states m in
-    let l = found_inside m.keys (model m) (view_proper m) few c.reach-tree.result t.0 t.1 t.2 c.loop-j.j c.loop-j-test.true in
+    let l = found_inside m.keys (model m) (view_proper m) c.reach-tree.result c.reach-tree.ensures c.loop-j.j c.loop-j-test.true in
     omega arith
 
-pub bounds-words-tree : goal.bounds-words-tree
-bounds-words-tree c =
+pub bounds-deref_mut-tree : goal.bounds-deref_mut-tree
+bounds-deref_mut-tree c =
     let m = c.args.m in
-    let t = c.reach-tree.ensures in
-    let few = few_states m in
-    let l = found_inside m.keys (model m) (view_proper m) few c.reach-tree.result t.0 t.1 t.2 c.loop-j.j c.loop-j-test.true in
+    let l = found_inside m.keys (model m) (view_proper m) c.reach-tree.result c.reach-tree.ensures c.loop-j.j c.loop-j-test.true in
+    let n = c.loop-j.invariant.0 in
+    let e = ap length c.deref_mut.ensures.value in
+    let s = length-map c.loop-j.words.items word_of in
     omega arith
 
 pub loop-j-preserved : goal.loop-j-preserved
 loop-j-preserved c =
     let m = c.args.m in
-    placed_more m.keys (model m) (view_proper m) (few_states m) c.reach-tree.result c.loop-j.j c.loop-j.words c.loop-j.invariant c.with.result c.index-words-parent.result
-    (let b = c.loop-j.auto.j in omega arith) c.loop-j-test.true c.with.ensures.value
+    let tree = c.reach-tree.result in
+    let l : parent_of tree c.loop-j.j < length (words_of c.loop-j.words.items) =
+    let n = c.loop-j.invariant.0 in
+    let i = parent_inside m.keys (model m) (view_proper m) tree c.reach-tree.ensures c.loop-j.j c.loop-j.auto.j c.loop-j-test.true in
+    omega arith in
+    let parent = word_read c.loop-j.words c.deref.result.now (parent_of tree c.loop-j.j) c.index-deref-parent.result c.deref.ensures.0 l c.index-deref-parent.is in
+    rw (word_written c.loop-j.words c.deref_mut.result.now (get_or tree.classes c.loop-j.j 0) c.followed.result c.deref_mut.ensures.value)
+    (placed_more m.keys (model m) (view_proper m) tree c.reach-tree.ensures c.loop-j.j (words_of c.loop-j.words.items) c.loop-j.invariant (word_of c.followed.result)
+    c.loop-j.auto.j c.loop-j-test.true (c.followed.ensures ∙ ap (λ w. w ++ get_or tree.keys c.loop-j.j 0 ∷ []) parent))
 
 pub returns : goal.returns
 returns c =
     let m = c.args.m in
-    let t = c.reach-tree.ensures in
-    record {
-      long = c.loop-j.invariant.0;
-      value = placed_all m.keys (model m) (view_proper m) (few_states m) c.reach-tree.result t.0 t.1 t.2 c.requires c.loop-j.j c.loop-j.words c.loop-j-test.false c.loop-j.invariant;
-    }
+    placed_all m.keys (model m) (view_proper m) c.reach-tree.result c.reach-tree.ensures c.loop-j.j (words_of c.loop-j.words.items) c.loop-j.invariant c.requires (few_states m) c.loop-j-test.false
