@@ -10,8 +10,7 @@ use Rattle.machine.specs.Machine.{Machine, Word, Proper, Minimal, after}
 use Rattle.machine.specs.Words.{FirstWord}
 use Rattle.machine.proofs.Cut.{first_short}
 use Rattle.machine.proofs.Runs.{after_below}
-use Rattle.minimal.specs.Levels.{class_in}
-use Rattle.minimal.specs.Search.{Searched, Kept, SearchTree, word_at}
+use Rattle.minimal.specs.Search.{Searched, Kept, SearchTree, word_at, class_found, found_at, found_count}
 use Rattle.minimal.specs.declared.tree.Tree.{Tree}
 use Rattle.minimal.proofs.Searches.{found_short}
 use Rattle.cover.specs.Cover.{access_words}
@@ -22,20 +21,20 @@ use Rattle.cover.proofs.Access.{access_word, access_is}
 abbrev pub Placed : ℕ → Machine → Tree → ℕ → List Word → Type 0
 Placed k m tree j qs =
     (length qs ≡ length m)
-    × ((ws : List Word) → Searched k (after m 0) ws → Kept k (after m 0) ws tree → (h : ℕ) → h < j → h < tree.count → get_or qs (class_in tree.classes h) [] ≡ word_at ws h)
+    × ((ws : List Word) → Searched k (after m 0) ws → Kept k (after m 0) ws tree → (h : ℕ) → h < j → h < found_count tree → get_or qs (class_found tree h) [] ≡ word_at ws h)
 
 -- the state from which the search found another
 abbrev pub parent_of : Tree → ℕ → ℕ
-parent_of tree j = class_in tree.classes (get_or tree.parents j 0)
+parent_of tree j = class_found tree (found_at tree j).parent
 
 module _ (k : ℕ) (m : Machine) (proper : Proper k m) (tree : Tree) (search : SearchTree k (after m 0) tree) where
   -- what the search found are states
-  pub found_inside : (h : ℕ) → h < tree.count → class_in tree.classes h < length m
+  pub found_inside : (h : ℕ) → h < found_count tree → class_found tree h < length m
   found_inside h l = rw (search.2.values h l) (after_below proper 0 (word_at search.0 h) proper.some)
 
   -- and so are their parents
-  pub parent_inside : (j : ℕ) → 0 < j → j < tree.count → parent_of tree j < length m
-  parent_inside j some c = found_inside (get_or tree.parents j 0) (let before = search.2.parents j some c in omega arith)
+  pub parent_inside : (j : ℕ) → 0 < j → j < found_count tree → parent_of tree j < length m
+  parent_inside j some c = found_inside (found_at tree j).parent (let before = search.2.parents j some c in omega arith)
 
   -- with an empty word at each state the first that was found is placed
   pub placed_first : (n : ℕ) (qs : List Word) → n ≡ length m → qs ≡ replicate n [] → Placed k m tree 1 qs
@@ -43,45 +42,45 @@ module _ (k : ℕ) (m : Machine) (proper : Proper k m) (tree : Tree) (search : S
     ap length empty ∙ length-replicate n [] ∙ all,
     λ ws s g h l c.
         let z : h ≡ 0 = omega arith in
-        ap (λ xs. get_or xs (class_in tree.classes h) []) empty
-        ∙ get_or-replicate n (class_in tree.classes h) [] [] (let i = found_inside h c in omega arith)
+        ap (λ xs. get_or xs (class_found tree h) []) empty
+        ∙ get_or-replicate n (class_found tree h) [] [] (let i = found_inside h c in omega arith)
         ∙ sym (ap (word_at ws) z ∙ s.start),
   )
 
   module _ (j : ℕ) (qs : List Word) (placed : Placed k m tree j qs) where
     -- the word of a parent has at most as many keys as there are states found before it
-    pub parent_short : 0 < j → j < tree.count → length (get_or qs (parent_of tree j) []) < tree.count
+    pub parent_short : 0 < j → j < found_count tree → length (get_or qs (parent_of tree j) []) < found_count tree
     parent_short some c =
         let before = search.2.parents j some c in
-        let a = ap length (placed.1 search.0 search.1 search.2 (get_or tree.parents j 0) before (omega arith)) in
-        let short = found_short search.1 (get_or tree.parents j 0) (let e = search.2.many in omega arith) in
+        let a = ap length (placed.1 search.0 search.1 search.2 (found_at tree j).parent before (omega arith)) in
+        let short = found_short search.1 (found_at tree j).parent (let e = search.2.many in omega arith) in
         omega arith
 
     -- one state more: the words before it stay, and its own is its parent's with a key behind
-    pub placed_more : (w : Word) → 0 < j → j < tree.count → w ≡ get_or qs (parent_of tree j) [] ++ get_or tree.keys j 0 ∷ [] → Placed k m tree (j + 1) (set qs (class_in tree.classes j) w)
-    placed_more w some c grown = (length-set qs (class_in tree.classes j) w ∙ placed.0, step)
+    pub placed_more : (w : Word) → 0 < j → j < found_count tree → w ≡ get_or qs (parent_of tree j) [] ++ (found_at tree j).key ∷ [] → Placed k m tree (j + 1) (set qs (class_found tree j) w)
+    placed_more w some c grown = (length-set qs (class_found tree j) w ∙ placed.0, step)
       where
         step :
             (ws : List Word) → Searched k (after m 0) ws → Kept k (after m 0) ws tree →
-            (h : ℕ) → h < j + 1 → h < tree.count → get_or (set qs (class_in tree.classes j) w) (class_in tree.classes h) [] ≡ word_at ws h
+            (h : ℕ) → h < j + 1 → h < found_count tree → get_or (set qs (class_found tree j) w) (class_found tree h) [] ≡ word_at ws h
         step ws searched kept h l hc =
             elim (cases_lt h j) [
               | inl before ↦
-                  get_or-set_other qs (class_in tree.classes j) (class_in tree.classes h) w []
+                  get_or-set_other qs (class_found tree j) (class_found tree h) w []
                   (λ e. searched.different h j before (let n = kept.many in omega arith) (sym (kept.values h hc) ∙ e ∙ kept.values j c))
                   ∙ placed.1 ws searched kept h before hc
               | inr g ↦
                   let same : h ≡ j = omega arith in
                   let before = kept.parents j some c in
                   rw same
-                  (get_or-set_same qs (class_in tree.classes j) w [] (let inside = found_inside j c in let long = placed.0 in omega arith)
+                  (get_or-set_same qs (class_found tree j) w [] (let inside = found_inside j c in let long = placed.0 in omega arith)
                   ∙ grown
-                  ∙ ap (λ z. z ++ get_or tree.keys j 0 ∷ []) (placed.1 ws searched kept (get_or tree.parents j 0) before (omega arith))
+                  ∙ ap (λ z. z ++ (found_at tree j).key ∷ []) (placed.1 ws searched kept (found_at tree j).parent before (omega arith))
                   ∙ sym (kept.steps j some c))
             ]
 
     -- all states that were found, which in a minimal machine are all
-    pub placed_all : Minimal k m → length m ≤ 16 → tree.count ≤ j → qs ≡ access_words k m
+    pub placed_all : Minimal k m → length m ≤ 16 → found_count tree ≤ j → qs ≡ access_words k m
     unfolding access_words
     placed_all minimal few all = fill_by_all (access_word k m) qs (length m) [] placed.0 at
       where
@@ -89,8 +88,8 @@ module _ (k : ℕ) (m : Machine) (proper : Proper k m) (tree : Tree) (search : S
         at s l =
             let r = minimal.reached s l in
             let f = search.1.complete r.0 r.1 in
-            let h : f.0 < tree.count = (let a = f.1 in let e = search.2.many in omega arith) in
-            let is : class_in tree.classes f.0 ≡ s = search.2.values f.0 h ∙ f.2 ∙ r.2 in
+            let h : f.0 < found_count tree = (let a = f.1 in let e = search.2.many in omega arith) in
+            let is : class_found tree f.0 ≡ s = search.2.values f.0 h ∙ f.2 ∙ r.2 in
             let first : FirstWord k (λ v. after m 0 v ≡ s) (word_at search.0 f.0) =
             subst (λ z. FirstWord k (λ v. after m 0 v ≡ z) (word_at search.0 f.0)) (f.2 ∙ r.2) (search.1.first f.0 f.1) in
             ap (λ z. get_or qs z []) (sym is)

@@ -29,9 +29,10 @@ pub(crate) fn access(m: Machine) -> ArrayVec<Word, 16>
 {
     let tree = reach(m);
     let mut words = unreached(m.states());
-    for j in 1..tree.count {
-        let parent = tree.classes[tree.parents[j]];
-        words[tree.classes[j]] = followed(&words[parent], tree.keys[j] as u64);
+    for j in 1..tree.found.len() {
+        let found = tree.at(j);
+        let parent = tree.at(found.parent).class;
+        words[found.class] = followed(&words[parent], found.key as u64);
     }
     words
 }

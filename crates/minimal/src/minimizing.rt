@@ -34,7 +34,7 @@ impl Derived for Quotient<'_> {
     }
 
     fn step(&self, state: usize, key: usize) -> Step {
-        let class = self.tree.class(state);
+        let class = self.tree.at(state).class;
         let place = self.tree.find(self.classes.behind(class, key));
         Step {
             to: place.unwrap_or(self.tree.found.len()),

@@ -4,7 +4,7 @@ ghost use Rattle.machine.specs.Machine.{after};
 ghost use Rattle.machine.specs.Run.{model, keys_of};
 ghost use Rattle.minimal.specs.Levels.{class_in};
 ghost use Rattle.minimal.specs.Quotient.{Congruence, class_after};
-ghost use Rattle.minimal.specs.Search.{class_found, found_count, SearchTree};
+ghost use Rattle.minimal.specs.Search.{found_at, found_count, SearchTree};
 
 use crate::classes::Classes;
 use crate::tree::{Found, Tree};
@@ -25,12 +25,12 @@ impl Tree {
         Tree { found }
     }
 
-    // The class that was found at a place.
-    pub(crate) fn class(&self, place: usize) -> usize
+    // What was found at a place.
+    pub fn at(&self, place: usize) -> Found
         requires { place < found_count self.now }
-        ensures { result ≡ class_found self.now place }
+        ensures { result ≡ found_at self.now place }
     {
-        self.found[place].class
+        self.found[place]
     }
 
     // Where a class stands among those found.
@@ -53,7 +53,7 @@ impl Classes<'_> {
         // by number, since the tree grows while it is gone through
         while parent < tree.found.len() {
             for key in 0..self.machine.keys() {
-                let class = self.behind(tree.class(parent), key);
+                let class = self.behind(tree.at(parent).class, key);
                 if tree.find(class).is_none() {
                     tree.found.push(Found { class, parent, key });
                 }

@@ -30,26 +30,6 @@ module _ (k : ℕ) (m : Machine) (longest : ℕ) (proper : Proper k m) (few : Wr
       let b = states_low in
       omega arith
 
-  -- what a key shows, from state q of the survivor; own is how many states the machine has
-  -- what the machine shows, if it is not key 0 in the last layer
-  pub right_shown :
-      (q x own shown : ℕ) → q < length (survivor_of k m longest) → x < k → own ≡ length m → shown ≡ (move m (q % own) x).output →
-      (eqb (q / own) longest && eqb x 0) ≡ false → shown ≡ (move (survivor_of k m longest) q x).output
-  right_shown q x own shown h l e is not_yet =
-      let n = length_survivor k m longest proper in
-      let here = ap (λ (a : Move). a.output) (survivor_at k m longest proper q x (omega arith) l) in
-      is ∙ ap (λ z. (move m (q % z) x).output) e ∙ sym (here ∙ rw (rw e at not_yet))
-
-  -- key 0 in the last layer shows a wrong output
-  pub wrong_shown :
-      (q x own shown another : ℕ) → q < length (survivor_of k m longest) → x < k → own ≡ length m → shown ≡ (move m (q % own) x).output →
-      q / own ≡ longest → x ≡ 0 → another ≡ wrong shown → another ≡ (move (survivor_of k m longest) q x).output
-  wrong_shown q x own shown another h l e is full zero_key other =
-      let n = length_survivor k m longest proper in
-      let here = ap (λ (a : Move). a.output) (survivor_at k m longest proper q x (omega arith) l) in
-      let test : (eqb (q / length m) longest && eqb x 0) ≡ true = and_from _ _ (eq-eqb _ _ (rw e at full)) (eq-eqb _ _ zero_key) in
-      other ∙ ap wrong (is ∙ ap (λ z. (move m (q % z) x).output) e) ∙ sym (here ∙ rw test)
-
 -- what the call answers, for a row, a bound, and what the lent row held before
 module _ (row : List ℕ) (longest : ℕ) (before : List ℕ) where
   -- if the row is refused, so is the survivor, for the same reason

@@ -1,10 +1,12 @@
 // Writing a survivor into a lent row.
-ghost use Rattle.std.specs.Prelude.{◌≡◌, ◌+◌, ◌*◌, ◌^◌, ◌<◌, ◌≤◌, min, Ok, Err};
+ghost use Rattle.std.specs.Prelude.{◌≡◌, ◌+◌, ◌*◌, ◌^◌, ◌<◌, ◌≤◌, ◌==◌, ◌&&◌, cond, min, Ok, Err};
+ghost use Rattle.machine.specs.Making.{Writable};
 ghost use Rattle.machine.specs.Refusals.{reason, reason_of};
+ghost use Rattle.machine.specs.Run.{model, keys_of};
 ghost use Rattle.survivor.specs.Answer.{SurvivorWritten, SurvivorReadsBack};
 ghost use Rattle.survivor.specs.Survivor.{wrong, survivor_of};
 
-use machine::{Derive, Machine, Refusal};
+use machine::{Derived, Machine, Refusal, Step};
 
 // The bound, if the survivor has at most 4,096 states.
 fn small_bound(own: usize, longest: u64) -> Result<usize, Refusal>
@@ -26,33 +28,49 @@ fn another(output: u64) -> u64
     if output == 0xffff_ffff { 0 } else { output + 1 }
 }
 
+// What a key shows when so many were pressed: another output, if it is key 0 and as many were pressed as are counted.
+fn shown(longest: usize, pressed: usize, key: usize, output: u64) -> u64
+    requires { output < 2 ^ 32 }
+    ensures { result ≡ cond (pressed == longest && key == 0) (wrong output) output }
+{
+    if pressed == longest && key == 0 {
+        another(output)
+    } else {
+        output
+    }
+}
+
 // A machine beside a count of the keys pressed, up to `longest`.
 #[derive(Drop)]
-struct Counted {
+struct Counted<'a> {
+    machine: Machine<'a>,
     longest: usize,
+    ghost writable: { Writable (keys_of machine) (survivor_of (keys_of machine) (model machine) longest) },
 }
 
 // A state stands for a state of the machine and how many keys were pressed.
-impl Derive for Counted {
-    ghost made = { λ way k m. survivor_of k m way.longest };
+impl Derived for Counted<'_> {
+    ghost made = { λ counted. survivor_of (keys_of counted.machine) (model counted.machine) counted.longest };
 
-    fn states(&self, m: Machine) -> usize {
-        (self.longest + 1) * m.states()
+    ghost made_keys = { λ counted. keys_of counted.machine };
+
+    ghost writable = { λ counted. counted.writable };
+
+    fn states(&self) -> usize {
+        (self.longest + 1) * self.machine.states()
     }
 
-    fn target(&self, m: Machine, state: usize, key: usize) -> usize {
-        let own = m.states();
+    fn keys(&self) -> usize {
+        self.machine.keys()
+    }
+
+    fn step(&self, state: usize, key: usize) -> Step {
+        let own = self.machine.states();
+        let step = self.machine.step(state % own, key);
         let layer = (state / own + 1).min(self.longest);
-        layer * own + m.next(state % own, key)
-    }
-
-    fn output(&self, m: Machine, state: usize, key: usize) -> u64 {
-        let own = m.states();
-        let shown = m.output(state % own, key);
-        if state / own == self.longest && key == 0 {
-            another(shown)
-        } else {
-            shown
+        Step {
+            to: layer * own + step.to,
+            output: shown(self.longest, state / own, key, step.output),
         }
     }
 }
@@ -62,9 +80,7 @@ pub fn survivor(row: &[u64], longest: u64, out: &mut [u64]) -> Result<u64, Refus
     ensures written { SurvivorWritten row.now longest out.old result out.new }
     ensures reads_back { SurvivorReadsBack row.now longest result out.new }
 {
-    let shape = machine::read(row)?;
-    let m = Machine::over(row, shape);
-    let longest = small_bound(m.states(), longest)?;
-    let way = Counted { longest };
-    machine::write_machine(&way, m, out)
+    let machine = Machine::read(row)?;
+    let longest = small_bound(machine.states(), longest)?;
+    machine::write_machine(&Counted { machine, longest }, out)
 }

@@ -1,7 +1,7 @@
 -- Judging test by test comes to the verdict on all of them. Assumes nothing.
-use Rattle.std.proofs.Common.{◌≡◌, ℕ, suc, ◌+◌, ◌-◌, ◌^◌, ◌<◌, ◌≤◌, Bool, true, cond, ltb, List, [], ◌∷◌, ◌++◌, length, get_or, take, drop, is_some, Some, None, Option, sym, refl, ap, ◌∙◌, subst, inl, inr, append_assoc, append-nil, arith, length-append}
-use Rattle.std.proofs.lemmas.List.{get_or_at, take_all}
-use Rattle.std.proofs.lemmas.Bool.{lt-ltb, le-ltb}
+use Rattle.std.proofs.Common.{◌≡◌, ℕ, suc, ◌+◌, ◌-◌, ◌^◌, ◌<◌, ◌≤◌, Bool, true, false, cond, ltb, List, [], ◌∷◌, ◌++◌, length, get_or, take, drop, is_some, Some, None, Option, sym, refl, ap, ◌∙◌, subst, inl, inr, append_assoc, append-nil, arith, length-append, length-drop}
+use Rattle.std.proofs.lemmas.List.{get_or_at, take_all, drop-drop}
+use Rattle.std.proofs.lemmas.Bool.{cases_Bool, cases_lt, lt-ltb, le-ltb, ltb-false}
 use Rattle.machine.specs.declared.running.Difference.{Difference}
 use Rattle.machine.specs.First.{first, or_else}
 use Rattle.machine.specs.Machine.{Machine, Word}
@@ -28,10 +28,10 @@ module _ (m : Machine) (ts : List Word) (shown : List ℕ) where
   -- after the first j tests
   pub record Sofar (j : ℕ) (s : Progress) : Type 0 where
     pub machine : model s.machine ≡ m
-    pub given : s.shown.now ≡ shown
     pub tests : s.tests ≡ j
     pub cut_is : s.cut ≡ first cut j
-    pub at : s.cut ≡ None → s.at ≡ begins_at ts j
+    pub rest : s.cut ≡ None → s.rest.now ≡ drop (begins_at ts j) shown
+    pub inside : s.cut ≡ None → begins_at ts j ≤ length shown
     pub verdict : s.cut ≡ None → s.verdict ≡ first_failed m ts shown (first fails j)
 
   -- a test that failed stays the first
@@ -58,34 +58,45 @@ module _ (m : Machine) (ts : List Word) (shown : List ℕ) where
   one_more j s t w h few is so took =
       let more = begins_more ts j h in
       let same = ap length is in
-      let given = so.given in
       let tests = so.tests in
-      let here : s.cut ≡ None → s.at + length w ≡ begins_at ts (suc j) = λ none. let a = so.at none in omega arith in
       let before : t.cut ≡ None → s.cut ≡ None = λ none. (or_else_none s.cut _ (sym took.cut ∙ none)).0 in
       record {
         machine = ap model took.machine ∙ so.machine;
-        given = took.shown ∙ given;
         tests = took.tests ∙ omega arith;
         cut_is = took.cut ∙ step s.cut refl;
-        at = λ none. took.at none ∙ here (before none);
+        rest = λ none.
+            took.rest none
+            ∙ ap (drop (length w)) (so.rest (before none))
+            ∙ drop-drop (length w) (begins_at ts j) shown
+            ∙ ap (λ n. drop n shown) (let e = more in omega arith);
+        inside = λ none. ltb-false _ _ (not_cut (or_else_none (first cut j) _ (sym (took.cut ∙ step s.cut refl) ∙ none)).1);
         verdict = λ none.
-            let a = so.at (before none) in
+            let r = so.rest (before none) in
             let v = so.verdict (before none) in
             took.verdict none
-            ∙ (λ i. on_next (so.machine i) (tests i) (is i) (take (length (is i)) (drop (a i) (given i))) (v i))
+            ∙ (λ i. on_next (so.machine i) (tests i) (is i) (take (length (is i)) (r i)) (v i))
             ∙ next_verdict j;
       }
     where
+      not_cut : cond (cut j) (Some j) None ≡ None → cut j ≡ false
+      not_cut e = elim (cases_Bool (cut j)) [
+        | inl t ↦ absurd (let z : Some j ≡ None = ap (λ b. cond b (Some j) None) (sym t) ∙ e in let y : ◌≡◌ {A = ℕ} 0 1 = cc in omega arith)
+        | inr f ↦ f
+      ]
+
       step : (o : Option ℕ) → s.cut ≡ o →
-          or_else s.cut (cond (ltb (length s.shown.now) (s.at + length w)) (Some s.tests) None) ≡ or_else (first cut j) (cond (cut j) (Some j) None)
+          or_else s.cut (cond (ltb (length s.rest.now) (length w)) (Some s.tests) None) ≡ or_else (first cut j) (cond (cut j) (Some j) None)
       step None e =
           let more = begins_more ts j h in
           let same = ap length is in
-          let a = so.at e in
-          let place : s.at + length w ≡ begins_at ts (suc j) = omega arith in
-          let none : first cut j ≡ None = sym so.cut_is ∙ e in
-          ap (λ o. or_else o (cond (ltb (length s.shown.now) (s.at + length w)) (Some s.tests) None)) so.cut_is
-          ∙ (λ i. or_else (first cut j) (cond (ltb (length (so.given i)) (place i)) (Some (so.tests i)) None))
+          let r = ap length (so.rest e) ∙ length-drop (begins_at ts j) shown in
+          let l = so.inside e in
+          let test : ltb (length s.rest.now) (length w) ≡ cut j = elim (cases_lt (length s.rest.now) (length w)) [
+            | inl low ↦ lt-ltb _ _ low ∙ sym (lt-ltb (length shown) (begins_at ts (suc j)) (omega arith))
+            | inr high ↦ le-ltb _ _ high ∙ sym (le-ltb (length shown) (begins_at ts (suc j)) (omega arith))
+          ] in
+          ap (λ o. or_else o (cond (ltb (length s.rest.now) (length w)) (Some s.tests) None)) so.cut_is
+          ∙ (λ i. or_else (first cut j) (cond (test i) (Some (so.tests i)) None))
       step (Some c) e = rw (← so.cut_is, e)
 
   -- the rest of the tests
@@ -104,17 +115,24 @@ module _ (m : Machine) (ts : List Word) (shown : List ℕ) where
       few (one_more j s mid w inside few here so fed.1) fed.2
 
   -- nothing is known before the first test
-  pub begun : (s : Progress) → model s.machine ≡ m → s.shown.now ≡ shown → s.tests ≡ 0 → s.cut ≡ None → s.at ≡ 0 → s.verdict ≡ Passed → Sofar 0 s
+  pub begun : (s : Progress) → model s.machine ≡ m → s.rest.now ≡ shown → s.tests ≡ 0 → s.cut ≡ None → s.verdict ≡ Passed → Sofar 0 s
   unfolding first keys_of_all
-  begun s a b c d e f = record { machine = a; given = b; tests = c; cut_is = d; at = λ _. e; verdict = λ _. f }
+  begun s a b c d f = record { machine = a; tests = c; cut_is = d; rest = λ _. b; inside = λ _. omega arith; verdict = λ _. f }
+
+  -- how much is left in the end
+  left : (s : Progress) → Sofar (length ts) s → s.cut ≡ None → (length s.rest.now ≡ length shown - keys_of_all ts) × (keys_of_all ts ≤ length shown)
+  left s so none =
+      let whole : begins_at ts (length ts) ≡ keys_of_all ts = ap keys_of_all (take_all (length ts) ts (omega arith)) in
+      let inside = so.inside none in
+      (ap length (so.rest none) ∙ length-drop (begins_at ts (length ts)) shown ∙ ap (λ n. length shown - n) whole, omega arith)
 
   -- in the end
-  pub ended_ok : (s : Progress) → Sofar (length ts) s → s.cut ≡ None → length s.shown.now ≤ s.at → (length_refusal ts (length shown) ≡ None) × (s.verdict ≡ verdict_of m ts shown)
+  pub ended_ok : (s : Progress) → Sofar (length ts) s → s.cut ≡ None → length s.rest.now ≡ 0 → (length_refusal ts (length shown) ≡ None) × (s.verdict ≡ verdict_of m ts shown)
   unfolding length_refusal cut_short verdict_of
   ended_ok s so none all =
-      let at = so.at none in
-      let whole : begins_at ts (length ts) ≡ keys_of_all ts = ap keys_of_all (take_all (length ts) ts (omega arith)) in
-      let n = ap length so.given in
+      let l = left s so none in
+      let e = l.0 in
+      let i = l.1 in
       (rw (← so.cut_is, none, le-ltb (keys_of_all ts) (length shown) (omega arith)), so.verdict none)
 
   -- if what was shown is cut short in a test, it is refused with the number of this test
@@ -123,10 +141,10 @@ module _ (m : Machine) (ts : List Word) (shown : List ℕ) where
   ended_cut s so j e = rw (← so.cut_is, e)
 
   -- if more was shown than the tests have keys, it is refused with how many tests there are
-  pub ended_behind : (s : Progress) → Sofar (length ts) s → s.cut ≡ None → s.at < length s.shown.now → length_refusal ts (length shown) ≡ Some (reason 6 s.tests)
+  pub ended_behind : (s : Progress) → Sofar (length ts) s → s.cut ≡ None → 0 < length s.rest.now → length_refusal ts (length shown) ≡ Some (reason 6 s.tests)
   unfolding length_refusal cut_short
   ended_behind s so none more =
-      let at = so.at none in
-      let whole : begins_at ts (length ts) ≡ keys_of_all ts = ap keys_of_all (take_all (length ts) ts (omega arith)) in
-      let n = ap length so.given in
+      let l = left s so none in
+      let e = l.0 in
+      let i = l.1 in
       rw (← so.cut_is, none, lt-ltb (keys_of_all ts) (length shown) (omega arith)) (ap {B = Option Reason} (λ z. Some (reason 6 z)) (sym so.tests))

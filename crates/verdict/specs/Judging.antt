@@ -27,16 +27,15 @@ on_next m j w part (Failed test key shown expected) = Failed test key shown expe
 -- what one test more makes of it
 pub record Took (s : Progress) (w : Word) (t : Progress) : Type 0 where
   pub machine : t.machine ≡ s.machine
-  pub shown : t.shown.now ≡ s.shown.now
   pub tests : t.tests ≡ min (s.tests + 1) (2 ^ 64 - 1)
-  pub cut : t.cut ≡ or_else s.cut (cond (nat_lt (length s.shown.now) (s.at + length w)) (Some s.tests) None)
-  pub at : t.cut ≡ None → t.at ≡ s.at + length w
-  pub verdict : t.cut ≡ None → t.verdict ≡ on_next (model s.machine) s.tests w (take (length w) (drop s.at s.shown.now)) s.verdict
+  pub cut : t.cut ≡ or_else s.cut (cond (nat_lt (length s.rest.now) (length w)) (Some s.tests) None)
+  pub rest : t.cut ≡ None → t.rest.now ≡ drop (length w) s.rest.now
+  pub verdict : t.cut ≡ None → t.verdict ≡ on_next (model s.machine) s.tests w (take (length w) s.rest.now) s.verdict
 
 -- what is said in the end: the verdict, if all was shown and nothing more; else where it was cut short, or how many tests there were
 abbrev pub Ended : Progress → Result Verdict Refusal → Type 0
-Ended s (Ok v) = (s.cut ≡ None) × (length s.shown.now ≤ s.at) × (v ≡ s.verdict)
-Ended s (Err f) = ((j : ℕ) × (s.cut ≡ Some j) × (reason_of f ≡ reason 6 j)) ⊎ ((s.cut ≡ None) × (s.at < length s.shown.now) × (reason_of f ≡ reason 6 s.tests))
+Ended s (Ok v) = (s.cut ≡ None) × (length s.rest.now ≡ 0) × (v ≡ s.verdict)
+Ended s (Err f) = ((j : ℕ) × (s.cut ≡ Some j) × (reason_of f ≡ reason 6 j)) ⊎ ((s.cut ≡ None) × (0 < length s.rest.now) × (reason_of f ≡ reason 6 s.tests))
 
 -- what was shown does not fit the tests, so no machine showed it
 pub record Misfit (row : List ℕ) (e : ℕ) (shown : List ℕ) (f : Refusal) : Type 0 where

@@ -36,45 +36,42 @@ impl Sink for Progress<'_> {
         let None = self.cut else {
             return;
         };
-        let shown = self.shown;
-        let at = self.at;
-        if shown.len() - at < test.len() {
+        let Some((shown, rest)) = self.rest.split_at_checked(test.len()) else {
             self.cut = Some(number);
             return;
-        }
-        let end = at + test.len();
-        self.verdict = after_test(self.machine, self.verdict, number, test, &shown[at..end]);
-        self.at = end;
+        };
+        self.verdict = after_test(self.machine, self.verdict, number, test, shown);
+        self.rest = rest;
     }
 }
 
-// The verdict, or where what was shown is cut short, or how many tests there are if something is behind the last.
-fn conclude(progress: Progress) -> Result<Verdict, Refusal>
-    ensures { Ended progress.entry result }
-{
-    if let Some(test) = progress.cut {
-        return Err(Refusal::WrongLength(test));
+impl Progress<'_> {
+    // The verdict, or where what was shown is cut short, or how many tests there are if something is behind the last.
+    fn conclude(self) -> Result<Verdict, Refusal>
+        ensures { Ended self.entry result }
+    {
+        if let Some(test) = self.cut {
+            return Err(Refusal::WrongLength(test));
+        }
+        if !self.rest.is_empty() {
+            return Err(Refusal::WrongLength(self.tests));
+        }
+        Ok(self.verdict)
     }
-    if progress.at < progress.shown.len() {
-        return Err(Refusal::WrongLength(progress.tests));
-    }
-    Ok(progress.verdict)
 }
 
 // Judges what a board showed on the tests for the machine in a row and so many extra states.
 pub fn judge<'a>(row: &'a [u64], extra: u64, shown: &'a [u64]) -> Result<Verdict, Refusal>
     ensures { Judgement row.now extra shown.now result }
 {
-    let shape = suite::prepare(row, extra)?;
-    let m = Machine::over(row, shape);
+    let specification = suite::prepare(row, extra)?;
     let mut progress = Progress {
-        machine: m,
-        shown,
-        at: 0,
+        machine: specification.machine(),
+        rest: shown,
         tests: 0,
         cut: None,
         verdict: Verdict::Passed,
     };
-    suite::each_test_for(m, extra as usize, &mut progress);
-    conclude(progress)
+    specification.each_test(&mut progress);
+    progress.conclude()
 }

@@ -12,49 +12,52 @@ use Rattle.survivor.proofs.making.survivor.Goals as goal
 own_states : (row : List ℕ) (m : Machine) (n longest : ℕ) → n ≡ length m → m ≡ Rattle.machine.specs.Row.machine_in row → (longest + 1) * n ≡ states_made row longest
 own_states row m n longest e is = ap (λ z. (longest + 1) * z) (e ∙ ap length is ∙ length_machine_in row)
 
-pub returns-in_err-shape : goal.returns-in_err-shape
-returns-in_err-shape c =
+pub returns-in_err-machine : goal.returns-in_err-machine
+returns-in_err-machine c =
     let p = err_from_is_err_and c.from_residual.result c.from_residual.ensures.1 in
     rw (p.1, p.2) (record {
-      written = (row_refused c.args.row.now c.args.longest c.args.out.now _ c.in_err-shape.ensures, refl);
+      written = (row_refused c.args.row.now c.args.longest c.args.out.now _ c.in_err-machine.ensures, refl);
       reads_back = tt;
     })
 
 pub small_bound-requires : goal.small_bound-requires
-small_bound-requires c = let s = (view_proper c.over-m.result).some in let e = c.states.ensures in omega arith
+small_bound-requires c = let s = (view_proper c.in_ok-machine.machine).some in let e = c.states.ensures in omega arith
 
 pub returns-in_err-longest : goal.returns-in_err-longest
 returns-in_err-longest c =
     let p = err_from_is_err_and c.from_residual-in_err-longest.result c.from_residual-in_err-longest.ensures.1 in
     let told = c.in_err-longest.ensures in
+    let read = c.in_ok-machine.ensures in
     let row = c.args.row.now in
     let longest = c.args.longest in
-    let same = own_states row _ _ longest c.states.ensures c.over-m.ensures.0 in
+    let same = own_states row _ _ longest c.states.ensures read.machine in
     rw (p.1, p.2) (record {
       written = (
-        too_many row longest c.args.out.now c.in_ok-shape.ensures.accepted (let h = told.0 in omega arith)
+        too_many row longest c.args.out.now read.accepted (let h = told.0 in omega arith)
             ∙ ap {B = Option Reason} Some (sym (told.1 ∙ ap (λ z. reason 7 (min z (2 ^ 32))) same)),
         refl,
       );
       reads_back = tt;
     })
 
-pub write_machine-requires : goal.write_machine-requires
-write_machine-requires c =
+pub invariant_of-write_machine : goal.invariant_of-write_machine
+invariant_of-write_machine c =
     let row = c.args.row.now in
     let told = c.in_ok-longest.ensures in
-    let same = own_states row _ _ c.args.longest c.states.ensures c.over-m.ensures.0 in
-    let ready = writable row c.args.longest c.args.out.now c.in_ok-shape.ensures.accepted (let h = told.1 in omega arith) in
-    simp (c.over-m.ensures.0, c.over-m.ensures.1, told.0) ready
+    let read = c.in_ok-machine.ensures in
+    let same = own_states row _ _ c.args.longest c.states.ensures read.machine in
+    let ready = writable row c.args.longest c.args.out.now read.accepted (let h = told.1 in omega arith) in
+    record { writable = simp (read.machine, read.keys, told.0) ready }
 
 pub returns : goal.returns
 returns c =
     let row = c.args.row.now in
     let told = c.in_ok-longest.ensures in
-    let same = own_states row _ _ c.args.longest c.states.ensures c.over-m.ensures.0 in
+    let read = c.in_ok-machine.ensures in
+    let same = own_states row _ _ c.args.longest c.states.ensures read.machine in
     record {
-      written = answered row c.args.longest c.args.out.now c.in_ok-shape.ensures.accepted (let h = told.1 in omega arith) c.write_machine.result c.write_machine.new.out
-          (simp (c.over-m.ensures.0, c.over-m.ensures.1, told.0) at c.write_machine.ensures.written);
-      reads_back = read_again row c.args.longest c.args.out.now c.in_ok-shape.ensures.accepted (let h = told.1 in omega arith) c.write_machine.result c.write_machine.new.out
-          (simp (c.over-m.ensures.0, c.over-m.ensures.1, told.0) at c.write_machine.ensures.reads_back);
+      written = answered row c.args.longest c.args.out.now read.accepted (let h = told.1 in omega arith) c.write_machine.result c.write_machine.new.out
+          (simp (read.machine, read.keys, told.0) at c.write_machine.ensures.written);
+      reads_back = read_again row c.args.longest c.args.out.now read.accepted (let h = told.1 in omega arith) c.write_machine.result c.write_machine.new.out
+          (simp (read.machine, read.keys, told.0) at c.write_machine.ensures.reads_back);
     }

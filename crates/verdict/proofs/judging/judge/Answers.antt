@@ -16,7 +16,7 @@ returns c =
     let row = c.args.row.now in
     let e = c.args.extra in
     let shown = c.args.shown.now in
-    let start = begun (machine_in row) (made row e) shown _ c.over-m.ensures.0 refl refl refl refl refl in
+    let start = begun (machine_in row) (made row e) shown _ c.over-m.ensures.0 refl refl refl refl in
     let fed = simp (c.over-m.ensures.0, c.over-m.ensures.1) at c.each_test_for.ensures.fed in
     let few = simp (c.over-m.ensures.0, c.over-m.ensures.1) at c.each_test_for.ensures.few in
     answered row e shown c.in_ok-shape.ensures.0 _ (all_taken (machine_in row) (made row e) shown (made row e) 0 [] _ _ refl refl (omega arith) start fed) _ c.conclude.ensures

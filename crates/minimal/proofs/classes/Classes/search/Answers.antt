@@ -8,6 +8,7 @@ use Rattle.machine.proofs.Views.{few_states, view_proper}
 use Rattle.minimal.specs.Levels.{class_in}
 use Rattle.minimal.specs.Quotient.{Congruence, class_after}
 use Rattle.minimal.specs.Search.{word_at, found_count, class_found}
+use Rattle.minimal.specs.declared.tree.Found.{Found}
 use Rattle.minimal.specs.declared.tree.Tree.{Tree}
 use Rattle.minimal.proofs.Growing.{Growing, found_some, found_none, grows_root, grows_known, grows_room, grows_new, grows_done, grows_ends, behind_is}
 use Rattle.minimal.proofs.Quotient.{congruence_low}
@@ -29,7 +30,7 @@ loop-key-preserved c =
     let g = c.loop-key.invariant.0 in
     let hi = c.loop-key.invariant.1 in
     let hx : c.loop-key.key < keys_of m = omega arith in
-    let here = behind m (class_in c.args.self.of) c.requires _ _ _ g hi hx _ _ c.class.ensures c.behind-class.ensures in
+    let here = behind m (class_in c.args.self.of) c.requires _ _ _ g hi hx _ _ (ap (λ (d : Found). d.class) c.at.ensures) c.behind-class.ensures in
     elim c.if-is_none.branch [
       | then-is_none w ↦
           let none = found_none c.loop-key.tree _ (sym c.find.ensures ∙ none_from_test _ w.if-is_none.ensures) in
@@ -50,7 +51,7 @@ push-requires c =
     let g = c.loop-key.invariant.0 in
     let hi = c.loop-key.invariant.1 in
     let hx : c.loop-key.key < keys_of m = omega arith in
-    let here = behind m (class_in c.args.self.of) c.requires _ _ _ g hi hx _ _ c.class.ensures c.behind-class.ensures in
+    let here = behind m (class_in c.args.self.of) c.requires _ _ _ g hi hx _ _ (ap (λ (d : Found). d.class) c.at.ensures) c.behind-class.ensures in
     let none = found_none c.loop-key.tree _ (sym c.find.ensures ∙ none_from_test _ c.if-is_none.ensures) in
     let room = grows_room _ _ _ g hi hx (λ l h e. none l h (e ∙ sym here)) (length (model m)) (congruence_low (view_proper m) c.requires) in
     let low : found_count c.loop-key.tree < 16 = omega (arith, few_states m) in

@@ -4,13 +4,14 @@ use Rattle.machine.specs.Run.{model, keys_of}
 use Rattle.minimal.specs.Levels.{class_in}
 use Rattle.minimal.specs.Quotient.{place}
 use Rattle.minimal.specs.Search.{found_count, class_found}
+use Rattle.minimal.specs.declared.tree.Found.{Found}
 use Rattle.minimal.proofs.Answered.{state_found}
 use Rattle.minimal.proofs.Growing.{found_place}
 use Rattle.minimal.proofs.Quotient.{move_quotient}
 use Rattle.minimal.proofs.minimizing.QuotientDerived.step.Goals as goal
 
-pub class-class-requires : goal.class-class-requires
-class-class-requires c =
+pub at-class-requires : goal.at-class-requires
+at-class-requires c =
     let q = c.args.self.now in
     state_found (keys_of q.classes.machine) (model q.classes.machine) (class_in q.classes.of) (class_found q.tree) (found_count q.tree) _ c.requires.state_within
 
@@ -24,7 +25,7 @@ returns-clause-to c =
     let n = found_count q.tree in
     let h = state_found k m class entry n _ c.requires.state_within in
     let moves = move_quotient k m class entry n c.args.state c.args.key h c.requires.key_within in
-    let behind = c.behind.ensures ∙ ap (λ e. class (move m e c.args.key).to) c.class-class.ensures in
+    let behind = c.behind.ensures ∙ ap (λ e. class (move m e c.args.key).to) (ap (λ (d : Found). d.class) c.at-class.ensures) in
     c.unwrap_or.ensures ∙ found_place q.tree c.behind.result _ _ c.find-place.ensures c.len.ensures.value ∙ ap (place entry n) behind ∙ sym (ap (λ (a : Move). a.to) moves)
 
 pub returns-clause-output : goal.returns-clause-output
@@ -37,4 +38,4 @@ returns-clause-output c =
     let n = found_count q.tree in
     let h = state_found k m class entry n _ c.requires.state_within in
     let moves = move_quotient k m class entry n c.args.state c.args.key h c.requires.key_within in
-    c.output.ensures.value ∙ ap (λ e. (move m e c.args.key).output) c.class-class.ensures ∙ sym (ap (λ (a : Move). a.output) moves)
+    c.output.ensures.value ∙ ap (λ e. (move m e c.args.key).output) (ap (λ (d : Found). d.class) c.at-class.ensures) ∙ sym (ap (λ (a : Move). a.output) moves)
