@@ -5,7 +5,7 @@ use lib.ListN.{length-map}
 use Rattle.std.specs.Cmp.Lexicographic.{pointwise}
 use Rattle.std.specs.List.{range_with_len, flat_map, list_any}
 use Rattle.std.proofs.lemmas.List.FromFn.{length-map-range_with_len, map-range_with_len_more}
-use Rattle.std.proofs.lemmas.List.{map-id, map_push, flat_map_more}
+use Rattle.std.proofs.lemmas.List.{map_push, flat_map_more}
 use Rattle.std.proofs.lemmas.Slice.Eq.{bytes_eq-Decides}
 use Rattle.std.proofs.lemmas.Bool.{cases_Bool, cases_lt, both_ways}
 use Rattle.arrayvec.specs.ArrayVec.{ArrayVec}
@@ -14,6 +14,7 @@ use Rattle.machine.specs.Words.{In, once_from}
 use Rattle.machine.proofs.Once.{once_again, once_new, length_once}
 use Rattle.cover.specs.Cover.{telling_words}
 use Rattle.cover.specs.Words.{word_of, words_of}
+use Rattle.cover.proofs.Keys.{counting_more}
 use Rattle.cover.proofs.Telling.{telling_word}
 
 -- how many pairs of states below n there are
@@ -50,10 +51,6 @@ module _ (k : ℕ) (m : Machine) where
   told_more s t =
       ap (λ z. rows s ++ z) (map-range_with_len_more (λ t. telling_word k m t s) 0 t t (omega arith))
       ∙ sym (append_assoc (rows s) (map (λ t. telling_word k m t s) (range_with_len 0 t)) (telling_word k m t s ∷ []))
-
-  -- counting one number more
-  counting_more : (s : ℕ) → range_with_len 0 (s + 1) ≡ range_with_len 0 s ++ s ∷ []
-  counting_more s = sym (map-id (range_with_len 0 (s + 1))) ∙ map-range_with_len_more (λ x. x) 0 s s (omega arith) ∙ ap (λ z. z ++ s ∷ []) (map-id (range_with_len 0 s))
 
   -- with all states below s told from it the next state begins
   told_row : (s : ℕ) → told_to (s + 1) 0 ≡ told_to s s

@@ -1,11 +1,11 @@
 -- The level at which states are told apart: which levels it says that they are alike at, one round more, and what is read out of a table of them. Assumes nothing.
-use Rattle.std.proofs.Common.{◌≡◌, ℕ, zero, suc, ◌+◌, ◌*◌, ◌<◌, ◌≤◌, true, false, ltb, List, length, get_or, set, replicate, sym, ◌∙◌, inl, inr, arith}
+use Rattle.std.proofs.Common.{◌≡◌, ℕ, zero, suc, ◌+◌, ◌*◌, ◌<◌, ◌≤◌, true, false, ltb, List, length, get_or, set, replicate, sym, ◌∙◌, inl, inr, add-one, arith}
 use Rattle.std.proofs.lemmas.List.{length-set, get_or-replicate, get_or-set_same, get_or-set_other}
 use Rattle.std.proofs.lemmas.Bool.{cases_Bool, cases_lt, both_ways, cond-true, cond-false, eq-eqb}
 use Rattle.std.proofs.lemmas.Bool.Decides.{same_from_decides, Decides-ltb}
 use Rattle.machine.specs.Machine.{Machine, move}
 use Rattle.minimal.specs.Levels.{alike, agrees_on}
-use Rattle.minimal.proofs.Alike.{every_from, every_not, alike_lower}
+use Rattle.minimal.proofs.Alike.{alike_lower}
 use Rattle.cover.specs.Levels.{level, LevelsTell, LevelsBelow}
 
 module _ (k : ℕ) (m : Machine) where
@@ -40,16 +40,6 @@ module _ (k : ℕ) (m : Machine) where
       ltb j r ≡ agrees_on k m j s t x
   agrees_same j s t x p q r to_p to_q e same = rw (e, to_p, to_q, eq-eqb _ _ same)
 
-  -- all keys agree, or one does not
-  pub all_agree : (j s t : ℕ) → ((x : ℕ) → x < k → agrees_on k m j s t x ≡ true) → true ≡ alike k m (suc j) s t
-  unfolding alike
-  all_agree j s t h = sym (every_from (agrees_on k m j s t) k h)
-
-  -- if one key does not agree, the states are not alike one level higher
-  pub one_disagrees : (j s t x : ℕ) → x < k → agrees_on k m j s t x ≡ false → false ≡ alike k m (suc j) s t
-  unfolding alike
-  one_disagrees j s t x h e = sym (every_not (agrees_on k m j s t) k x h e)
-
 -- the first entries of a table have gone one round further than the others
 abbrev pub Filled : ℕ → Machine → ℕ → ℕ → List ℕ → Type 0
 Filled k m b done es =
@@ -67,8 +57,8 @@ module _ (k : ℕ) (m : Machine) (b : ℕ) (few : length m ≤ 16) where
   filled_row s es h = (h.0, λ p q hp hq. (λ l. (h.1 p q hp hq).0 (omega arith), λ l. (h.1 p q hp hq).1 (omega arith)))
 
   -- with the entries of all states done the round is over
-  pub filled_end : (es : List ℕ) → Filled k m b (16 * length m) es → LevelsBelow k m (suc b) es
-  filled_end es h s t hs ht = (h.1 s t hs ht).0 (omega arith)
+  pub filled_end : (es : List ℕ) → Filled k m b (16 * length m) es → LevelsBelow k m (b + 1) es
+  filled_end es h s t hs ht = rw (add-one b) ((h.1 s t hs ht).0 (omega arith))
 
   module _ (s t : ℕ) (es : List ℕ) (hs : s < length m) (ht : t < length m) (filled : Filled k m b (16 * s + t) es) where
     -- the next two states are not alike at level b, and their entry stays

@@ -1,12 +1,12 @@
 -- Making the first word that tells two states apart key by key: what holds before each key. Assumes nothing.
-use Rattle.std.proofs.Common.{◌≡◌, ℕ, zero, suc, ◌+◌, ◌<◌, true, false, [], ◌∷◌, ◌++◌, length, sym, refl, ap, ◌∙◌, inl, inr, append_assoc, append-nil, length-append, arith}
+use Rattle.std.proofs.Common.{◌≡◌, ℕ, zero, suc, ◌+◌, ◌<◌, not, IsSome, Some, [], ◌∷◌, ◌++◌, length, sym, refl, ap, ◌∙◌, inl, inr, append_assoc, append-nil, length-append, arith}
 use Rattle.std.proofs.lemmas.Bool.{cases_Bool, cases_lt, both_ways}
 use Rattle.machine.specs.Machine.{Machine, Word, move}
-use Rattle.minimal.specs.Levels.{alike, agrees_on}
+use Rattle.minimal.specs.Levels.{alike}
 use Rattle.minimal.proofs.Alike.{alike_zero}
-use Rattle.cover.specs.Levels.{level}
+use Rattle.cover.specs.Levels.{level, first_key}
 use Rattle.cover.proofs.Entries.{level_alike, alike_level}
-use Rattle.cover.proofs.Telling.{Apart, FirstKey, Left, rest_of, telling_word, telling_step, agrees, disagrees}
+use Rattle.cover.proofs.Telling.{Apart, Left, rest_of, telling_word, telling_step, key_is, key_there}
 
 -- word w was made, so many keys are left, and p and q are the states behind it
 pub record Turn (k : ℕ) (m : Machine) (t s : ℕ) (left p q : ℕ) (w : Word) : Type 0 where
@@ -47,19 +47,18 @@ module _ (k : ℕ) (m : Machine) (t s : ℕ) where
     here : Apart k m j p q
     here = rw e at turn.apart
 
-    -- so they are not alike there
-    pub turn_apart : alike k m (suc j) p q ≡ false
-    turn_apart = here.apart_at
+    -- so a key tells them apart
+    pub turn_key : IsSome (first_key k m j p q)
+    turn_key = key_there k m j p q ∙ ap not here.apart_at
 
     -- one key more: the smallest that does not agree
     pub turn_goes :
-        (x p' q' : ℕ) (w' : Word) → x < k → agrees_on k m j p q x ≡ false → ((y : ℕ) → y < x → agrees_on k m j p q y ≡ true) →
+        (x p' q' : ℕ) (w' : Word) → first_key k m j p q ≡ Some x →
         p' ≡ (move m p x).to → q' ≡ (move m q x).to → p' < length m → q' < length m → w' ≡ w ++ x ∷ [] →
         Turn k m t s j p' q' w'
-    turn_goes x p' q' w' inside disagrees_here none to_p to_q hp hq with_key =
+    turn_goes x p' q' w' is_key to_p to_q hp hq with_key =
         let short = turn.short in
-        let key : FirstKey k m j p q x = record { inside = inside; here = disagrees k m j p q x disagrees_here; none = λ y l. agrees k m j p q y (none y l) } in
-        let step = telling_step k m j p q x (omega arith) here key in
+        let step = telling_step k m j p q x (omega arith) here (key_is k m j p q x is_key) in
         record {
           first = hp;
           second = hq;

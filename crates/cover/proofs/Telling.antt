@@ -1,5 +1,5 @@
 -- The first word that tells two states apart: found among the words of at most so many keys, and made key by key of the levels. Assumes nothing.
-use Rattle.std.proofs.Common.{◌≡◌, ℕ, zero, suc, ◌<◌, ◌≤◌, Bool, true, false, cond, not, eqb, List, [], ◌∷◌, length, sym, refl, ap, ◌∙◌, inl, inr, arith}
+use Rattle.std.proofs.Common.{◌≡◌, ℕ, zero, suc, ◌<◌, ◌≤◌, Bool, true, false, cond, not, eqb, List, [], ◌∷◌, length, Option, Some, None, is_some, sym, refl, ap, ◌∙◌, inl, inr, arith}
 use mathlib.Core.List.{head-eq_of_cons-eq, tail-eq_of_cons-eq}
 use Rattle.std.proofs.lemmas.Bool.{cases_Bool, cases_eq, and_parts, both_ways, not-true, not-false, not_from_false, eqb-true, eq-eqb}
 use Rattle.machine.specs.Machine.{Machine, Word, Keys, move, outputs}
@@ -8,8 +8,10 @@ use Rattle.machine.proofs.Enumeration.{first_in, first_in_is}
 use Rattle.machine.proofs.First.{first_cases}
 use Rattle.machine.proofs.Once.{same_false, differ_same}
 use Rattle.minimal.specs.Levels.{alike, agrees_on}
-use Rattle.minimal.proofs.Alike.{alike_step, alike_from, alike_zero, alike_shows}
+use Rattle.minimal.proofs.Alike.{every_from, every_not, alike_step, alike_zero, alike_shows}
 use Rattle.cover.specs.Cover.{Tells, first_telling}
+use Rattle.cover.specs.Levels.{first_key}
+use Rattle.cover.proofs.Keys.{first_found}
 
 -- whether a word tells states t and s apart
 abbrev pub telling_test : Machine → ℕ → ℕ → Word → Bool
@@ -68,14 +70,28 @@ module _ (k : ℕ) (m : Machine) (j t s : ℕ) where
   pub disagrees : (x : ℕ) → agrees_on k m j t s x ≡ false → Agree k m j t s x → ⊥
   disagrees x e a = both_ways _ e (rw (eq-eqb _ _ a.0, a.1))
 
-module _ (k : ℕ) (m : Machine) (j t s : ℕ) (apart : Apart k m j t s) where
-  -- there is a smallest key that does not agree
-  first_key : (x : ℕ) × FirstKey k m j t s x
-  first_key =
+  -- the first key that was found not to agree is the smallest
+  pub key_is : (x : ℕ) → first_key k m j t s ≡ Some x → FirstKey k m j t s x
+  key_is x e =
+      let f = first_found (λ x. not (agrees_on k m j t s x)) k x e in
+      record { inside = f.inside; here = disagrees x (not-true _ f.passes); none = λ y l. agrees y (not-false _ (f.none y l)) }
+
+  -- there is such a key exactly if the states are not alike one level higher
+  pub key_there : is_some (first_key k m j t s) ≡ not (alike k m (suc j) t s)
+  unfolding alike
+  key_there =
       elim (first_cases (λ x. not (agrees_on k m j t s x)) k) [
-        | inl n ↦ absurd (both_ways _ apart.apart_at (alike_from k m j t s (λ x l. agrees k m j t s x (not-false _ (n.1 x l)))))
-        | inr f ↦ let r = f.2 in (f.0, record { inside = r.inside; here = disagrees k m j t s f.0 (not-true _ r.passes); none = λ y l. agrees k m j t s y (not-false _ (r.none y l)) })
+        | inl n ↦ rw (n.0, every_from (agrees_on k m j t s) k (λ x l. not-false _ (n.1 x l))) refl
+        | inr f ↦ let r = f.2 in rw (f.1, every_not (agrees_on k m j t s) k f.0 r.inside (not-true _ r.passes)) refl
       ]
+
+  -- so a key tells states apart that are
+  pub some_key : Apart k m j t s → (x : ℕ) × (first_key k m j t s ≡ Some x)
+  some_key apart = go (first_key k m j t s) refl (key_there ∙ ap not apart.apart_at)
+    where
+      go : (r : Option ℕ) → first_key k m j t s ≡ r → is_some (first_key k m j t s) ≡ true → (x : ℕ) × (first_key k m j t s ≡ Some x)
+      go None e h = absurd (both_ways _ (ap is_some e) h)
+      go (Some x) e h = (x, e)
 
 module _ (k : ℕ) (m : Machine) (j t s x : ℕ) (apart : Apart k m j t s) (key : FirstKey k m j t s x) where
   -- behind a smaller key at most j keys tell nothing
@@ -141,14 +157,15 @@ ToldAt k m j t s = (w : Word) × FirstWord k (Tells m t s) w × (length w ≡ su
 -- there is one, if there is one for all states that are apart one level lower
 told_step : (k : ℕ) (m : Machine) (j t s : ℕ) → Apart k m j t s → ((i p q : ℕ) → j ≡ suc i → Apart k m i p q → ToldAt k m i p q) → ToldAt k m j t s
 told_step k m j t s apart lower =
-    let f = first_key k m j t s apart in
+    let f = some_key k m j t s apart in
     let x = f.0 in
+    let key = key_is k m j t s x f.1 in
     elim (cases_eq (move m t x).output (move m s x).output) [
       | inl e ↦
-          let b = apart_behind k m j t s x apart f.1 e in
+          let b = apart_behind k m j t s x apart key e in
           let r = lower b.0 (move m t x).to (move m s x).to b.1 b.2 in
-          (x ∷ r.0, first_behind k m j t s x apart f.1 r.0 (r.2 ∙ sym b.1) e r.1, ap suc (r.2 ∙ sym b.1))
-      | inr d ↦ let r = first_last k m j t s x apart f.1 d in (x ∷ [], r.1, ap suc (sym r.0))
+          (x ∷ r.0, first_behind k m j t s x apart key r.0 (r.2 ∙ sym b.1) e r.1, ap suc (r.2 ∙ sym b.1))
+      | inr d ↦ let r = first_last k m j t s x apart key d in (x ∷ [], r.1, ap suc (sym r.0))
     ]
 
 -- states apart at level j + 1 are told apart by a first word, of j + 1 keys

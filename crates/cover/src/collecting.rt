@@ -6,8 +6,7 @@ ghost use Rattle.machine.specs.Words.{In};
 ghost use Rattle.cover.specs.Cover.{separating_words};
 ghost use Rattle.cover.specs.Words.{word_of, words_of};
 
-use crate::levels::levels_of;
-use crate::pairs::telling_word;
+use crate::levels::Levels;
 use crate::words::Word;
 use arrayvec::ArrayVec;
 use machine::Machine;
@@ -28,10 +27,10 @@ pub(crate) fn separating(m: Machine) -> ArrayVec<Word, 120>
         words.push(Word::new());
         return words;
     }
-    let levels = levels_of(m);
+    let levels = Levels::of(m);
     for s in 0..m.states() {
         'pairs: for t in 0..s {
-            let word = telling_word(m, levels, t, s);
+            let word = levels.telling_word(t, s);
             if is_among(&word, &words) {
                 continue 'pairs;
             }

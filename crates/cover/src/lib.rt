@@ -7,7 +7,6 @@ mod covering;
 mod levels;
 mod pairs;
 mod reaching;
-mod table;
 mod words;
 
 pub use cover::Cover;

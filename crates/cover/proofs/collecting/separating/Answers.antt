@@ -22,14 +22,15 @@ pub telling_word-word-requires-clause-apart : goal.telling_word-word-requires-cl
 telling_word-word-requires-clause-apart c =
     let m = c.args.m in
     let apart = apart_level short_separation m.keys (model m) (view_proper m) c.requires c.pairs.t c.loop-s.s c.pairs-test.true c.pairs.invariant.0 in
-    level_from_apart m.keys (model m) c.pairs.t c.loop-s.s apart.0 apart.2 apart.1
+    rw c.of-levels.ensures.0 (level_from_apart m.keys (model m) c.pairs.t c.loop-s.s apart.0 apart.2 apart.1)
 
 pub pairs-preserved-then-is_among : goal.pairs-preserved-then-is_among
-pairs-preserved-then-is_among c = (
-  c.pairs.invariant.0,
-  kept_again c.args.m.keys (model c.args.m) c.loop-s.s c.pairs.t c.pairs.words.items c.pairs.invariant.1 (word_of c.telling_word-word.result) c.telling_word-word.ensures
-      (rw (← c.deref.ensures.0) (c.is_among.ensures.0 c.if-is_among.true)),
-)
+pairs-preserved-then-is_among c =
+    let m = c.args.m in (
+      c.pairs.invariant.0,
+      kept_again m.keys (model m) c.loop-s.s c.pairs.t c.pairs.words.items c.pairs.invariant.1 (word_of c.telling_word-word.result)
+          (rw c.of-levels.ensures.0 at c.telling_word-word.ensures) (rw (← c.deref.ensures.0) (c.is_among.ensures.0 c.if-is_among.true)),
+    )
 
 pub push-requires-in-pairs : goal.push-requires-in-pairs
 push-requires-in-pairs c =
@@ -39,12 +40,13 @@ push-requires-in-pairs c =
     (omega arith, room)
 
 pub pairs-preserved : goal.pairs-preserved
-pairs-preserved c = (
-  c.pairs.invariant.0,
-  rw c.push-in-pairs.ensures.items
-      (kept_more c.args.m.keys (model c.args.m) c.loop-s.s c.pairs.t c.pairs.words.items c.pairs.invariant.1 c.telling_word-word.result c.telling_word-word.ensures
-      (λ i. both_ways _ c.if-is_among.false (c.is_among.ensures.1 (rw c.deref.ensures.0 i)))),
-)
+pairs-preserved c =
+    let m = c.args.m in (
+      c.pairs.invariant.0,
+      rw c.push-in-pairs.ensures.items
+          (kept_more m.keys (model m) c.loop-s.s c.pairs.t c.pairs.words.items c.pairs.invariant.1 c.telling_word-word.result (rw c.of-levels.ensures.0 at c.telling_word-word.ensures)
+          (λ i. both_ways _ c.if-is_among.false (c.is_among.ensures.1 (rw c.deref.ensures.0 i)))),
+    )
 
 pub loop-s-preserved : goal.loop-s-preserved
 loop-s-preserved c =
