@@ -1,6 +1,5 @@
 // The separating words: for every two states the first word that tells them apart, each word once.
 ghost use Rattle.std.specs.Prelude.{◌≡◌, ◌↔◌, IsTrue};
-ghost use Rattle.machine.specs.Machine.{Minimal};
 ghost use Rattle.machine.specs.Run.{model, keys_of};
 ghost use Rattle.machine.specs.Words.{In};
 ghost use Rattle.cover.specs.Cover.{separating_words};
@@ -9,7 +8,7 @@ ghost use Rattle.cover.specs.Words.{word_of, words_of};
 use crate::levels::Levels;
 use crate::words::Word;
 use arrayvec::ArrayVec;
-use machine::Machine;
+use minimal::MinimalMachine;
 
 // Whether a word is one of some words.
 fn is_among(word: &Word, words: &[Word]) -> bool
@@ -18,17 +17,16 @@ fn is_among(word: &Word, words: &[Word]) -> bool
     words.contains(word)
 }
 
-pub(crate) fn separating(m: Machine) -> ArrayVec<Word, 120>
-    requires { Minimal (keys_of m) (model m) }
-    ensures { words_of result.items ≡ separating_words (keys_of m.entry) (model m.entry) }
+pub(crate) fn separating(m: MinimalMachine) -> ArrayVec<Word, 120>
+    ensures { words_of result.items ≡ separating_words (keys_of m.entry.machine) (model m.entry.machine) }
 {
     let mut words = ArrayVec::new();
-    if m.states() <= 1 {
+    if m.machine.states() <= 1 {
         words.push(Word::new());
         return words;
     }
-    let levels = Levels::of(m);
-    for s in 0..m.states() {
+    let levels = Levels::of(m.machine);
+    for s in 0..m.machine.states() {
         'pairs: for t in 0..s {
             let word = levels.telling_word(t, s);
             if is_among(&word, &words) {

@@ -1,14 +1,12 @@
 // The access words: for every state the first word that reaches it.
 ghost use Rattle.std.specs.Prelude.{◌≡◌, ◌≤◌, [], length, replicate};
-ghost use Rattle.machine.specs.Machine.{Minimal};
 ghost use Rattle.machine.specs.Run.{model, keys_of};
 ghost use Rattle.cover.specs.Cover.{access_words};
 ghost use Rattle.cover.specs.Words.{words_of};
 
 use crate::words::{Word, followed};
 use arrayvec::ArrayVec;
-use machine::Machine;
-use minimal::reach;
+use minimal::{MinimalMachine, reach};
 
 // The empty word for each of so many states.
 fn unreached(states: usize) -> ArrayVec<Word, 16>
@@ -23,12 +21,11 @@ fn unreached(states: usize) -> ArrayVec<Word, 16>
 }
 
 // Each state's word is that of its parent in the search, with a key behind.
-pub(crate) fn access(m: Machine) -> ArrayVec<Word, 16>
-    requires { Minimal (keys_of m) (model m) }
-    ensures { words_of result.items ≡ access_words (keys_of m.entry) (model m.entry) }
+pub(crate) fn access(m: MinimalMachine) -> ArrayVec<Word, 16>
+    ensures { words_of result.items ≡ access_words (keys_of m.entry.machine) (model m.entry.machine) }
 {
-    let tree = reach(m);
-    let mut words = unreached(m.states());
+    let tree = reach(m.machine);
+    let mut words = unreached(m.machine.states());
     for j in 1..tree.found.len() {
         let found = tree.at(j);
         let parent = tree.at(found.parent).class;

@@ -4,6 +4,7 @@ pub mod Beside
 pub mod Counts
 pub mod FirstWords
 pub mod Growing
+pub mod Known
 pub mod Moore
 pub mod Needed
 pub mod Quotient

@@ -16,10 +16,4 @@ impl<'a> MinimalMachine<'a> {
         }
         Ok(MinimalMachine { machine })
     }
-
-    pub fn machine(self) -> Machine<'a>
-        ensures { result ≡ self.entry.machine }
-    {
-        self.machine
-    }
 }

@@ -7,6 +7,6 @@ use machine::Machine;
 // It is made by checking a machine, so that what needs a minimal machine asks for nothing else.
 #[derive(Clone, Copy)]
 pub struct MinimalMachine<'a> {
-    pub(crate) machine: Machine<'a>,
+    pub machine: Machine<'a>,
     ghost none_redundant: { NoneRedundant (keys_of machine) (model machine) },
 }

@@ -2,6 +2,7 @@ use Rattle.std.proofs.Common.{◌≡◌, length, sym, ◌∙◌, subst, arith}
 use Rattle.std.proofs.lemmas.Bool.{both_ways}
 use Rattle.machine.specs.Run.{model}
 use Rattle.machine.proofs.Views.{view_proper, few_states}
+use Rattle.minimal.proofs.Known.{known_minimal}
 use Rattle.minimal.proofs.Moore.{short_separation}
 use Rattle.cover.specs.Words.{word_of}
 use Rattle.cover.proofs.Collected.{KeptTo, kept_starts, kept_row, kept_room, kept_again, kept_more, kept_all}
@@ -13,20 +14,20 @@ pub returns-then-states-le1 : goal.returns-then-states-le1
 returns-then-states-le1 c =
     let e = c.states.ensures in
     let l = c.if-states-le1.true in
-    rw (c.push.ensures.items, c.new-words.ensures, c.new.ensures) (sym (one_state c.args.m.keys (model c.args.m) (omega arith)))
+    rw (c.push.ensures.items, c.new-words.ensures, c.new.ensures) (sym (one_state c.args.m.machine.keys (model c.args.m.machine) (omega arith)))
 
 pub loop-s-init : goal.loop-s-init
-loop-s-init c = kept_starts c.args.m.keys (model c.args.m) c.new-words.result.items c.new-words.ensures
+loop-s-init c = kept_starts c.args.m.machine.keys (model c.args.m.machine) c.new-words.result.items c.new-words.ensures
 
 pub telling_word-word-requires-clause-apart : goal.telling_word-word-requires-clause-apart
 telling_word-word-requires-clause-apart c =
-    let m = c.args.m in
-    let apart = apart_level short_separation m.keys (model m) (view_proper m) c.requires c.pairs.t c.loop-s.s c.pairs-test.true c.pairs.invariant.0 in
+    let m = c.args.m.machine in
+    let apart = apart_level short_separation m.keys (model m) (view_proper m) (known_minimal c.args.m) c.pairs.t c.loop-s.s c.pairs-test.true c.pairs.invariant.0 in
     rw c.of-levels.ensures.0 (level_from_apart m.keys (model m) c.pairs.t c.loop-s.s apart.0 apart.2 apart.1)
 
 pub pairs-preserved-then-is_among : goal.pairs-preserved-then-is_among
 pairs-preserved-then-is_among c =
-    let m = c.args.m in (
+    let m = c.args.m.machine in (
       c.pairs.invariant.0,
       kept_again m.keys (model m) c.loop-s.s c.pairs.t c.pairs.words.items c.pairs.invariant.1 (word_of c.telling_word-word.result)
           (rw c.of-levels.ensures.0 at c.telling_word-word.ensures) (rw (← c.deref.ensures.0) (c.is_among.ensures.0 c.if-is_among.true)),
@@ -34,14 +35,14 @@ pairs-preserved-then-is_among c =
 
 pub push-requires-in-pairs : goal.push-requires-in-pairs
 push-requires-in-pairs c =
-    let f = few_states c.args.m in
+    let f = few_states c.args.m.machine in
     let hs = c.pairs.invariant.0 in
-    let room = kept_room c.args.m.keys (model c.args.m) c.loop-s.s c.pairs.t c.pairs.words.items c.pairs.invariant.1 (omega arith) c.pairs-test.true in
+    let room = kept_room c.args.m.machine.keys (model c.args.m.machine) c.loop-s.s c.pairs.t c.pairs.words.items c.pairs.invariant.1 (omega arith) c.pairs-test.true in
     (omega arith, room)
 
 pub pairs-preserved : goal.pairs-preserved
 pairs-preserved c =
-    let m = c.args.m in (
+    let m = c.args.m.machine in (
       c.pairs.invariant.0,
       rw c.push-in-pairs.ensures.items
           (kept_more m.keys (model m) c.loop-s.s c.pairs.t c.pairs.words.items c.pairs.invariant.1 c.telling_word-word.result (rw c.of-levels.ensures.0 at c.telling_word-word.ensures)
@@ -50,13 +51,13 @@ pairs-preserved c =
 
 pub loop-s-preserved : goal.loop-s-preserved
 loop-s-preserved c =
-    let m = c.args.m in
+    let m = c.args.m.machine in
     let end : c.pairs.t ≡ c.loop-s.s = (let a = c.pairs-test.false in let k = c.pairs.auto.t-end in omega arith) in
     kept_row m.keys (model m) c.loop-s.s c.pairs.words.items (subst (λ t. KeptTo m.keys (model m) c.loop-s.s t c.pairs.words.items) end c.pairs.invariant.1)
 
 pub returns : goal.returns
 returns c =
-    let m = c.args.m in
+    let m = c.args.m.machine in
     let e = c.states.ensures in
     let l = c.if-states-le1.false in
     let end : c.loop-s.s ≡ length (model m) = (let a = c.loop-s-test.false in let k = c.loop-s.auto.s-end in let z = c.states-s-end.ensures in omega arith) in

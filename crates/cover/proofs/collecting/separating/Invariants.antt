@@ -4,7 +4,7 @@ use Rattle.cover.proofs.Collected.{KeptTo}
 use Rattle.cover.proofs.collecting.separating.Given as goal
 
 abbrev pub invariant-loop-s : goal.invariant-loop-s
-invariant-loop-s l = KeptTo (keys_of l.m) (model l.m) l.s 0 l.words.items
+invariant-loop-s l = KeptTo (keys_of l.m.machine) (model l.m.machine) l.s 0 l.words.items
 
 abbrev pub invariant-pairs : goal.invariant-pairs
-invariant-pairs l = (l.s < length (model l.m)) × KeptTo (keys_of l.m) (model l.m) l.s l.t l.words.items
+invariant-pairs l = (l.s < length (model l.m.machine)) × KeptTo (keys_of l.m.machine) (model l.m.machine) l.s l.t l.words.items

@@ -1,6 +1,7 @@
 use Rattle.std.proofs.Common.{◌≡◌, sym, subst}
 use Rattle.machine.specs.Run.{model}
 use Rattle.machine.proofs.Views.{view_proper}
+use Rattle.minimal.proofs.Known.{known_minimal}
 use Rattle.minimal.proofs.Moore.{short_separation}
 use Rattle.cover.specs.Cover.{access_words, separating_words, Reaches, Separates}
 use Rattle.cover.specs.Promises.{AccessFirst, TellingFirst, AllTelling, EachOnce, FewerKeys}
@@ -11,7 +12,7 @@ use Rattle.cover.proofs.cover.Cover.of.Goals as goal
 
 pub returns : goal.returns
 returns c =
-    let m = c.args.m in
+    let m = c.args.m.machine in
     let k = m.keys in
     let proper = view_proper m in
     let a : words_of c.access-access.result.items ≡ access_words k (model m) = c.access-access.ensures in
@@ -19,11 +20,11 @@ returns c =
     record {
       access = a;
       separating = b;
-      reaches = subst (Reaches k (model m)) (sym a) (access_words_reach k (model m) proper c.requires);
-      separates = subst (Separates (model m)) (sym b) (separating_separates short_separation k (model m) proper c.requires);
-      reaching = subst (AccessFirst k (model m)) (sym a) (access_words_first k (model m) proper c.requires);
-      telling = subst (TellingFirst k (model m)) (sym b) (separating_first short_separation k (model m) proper c.requires);
-      needed = subst (AllTelling k (model m)) (sym b) (separating_only short_separation k (model m) proper c.requires);
+      reaches = subst (Reaches k (model m)) (sym a) (access_words_reach k (model m) proper (known_minimal c.args.m));
+      separates = subst (Separates (model m)) (sym b) (separating_separates short_separation k (model m) proper (known_minimal c.args.m));
+      reaching = subst (AccessFirst k (model m)) (sym a) (access_words_first k (model m) proper (known_minimal c.args.m));
+      telling = subst (TellingFirst k (model m)) (sym b) (separating_first short_separation k (model m) proper (known_minimal c.args.m));
+      needed = subst (AllTelling k (model m)) (sym b) (separating_only short_separation k (model m) proper (known_minimal c.args.m));
       once = subst EachOnce (sym b) (separating_once k (model m));
-      short = (subst (FewerKeys (model m)) (sym a) (access_words_fewer k (model m) proper c.requires), subst (FewerKeys (model m)) (sym b) (separating_short short_separation k (model m) proper c.requires));
+      short = (subst (FewerKeys (model m)) (sym a) (access_words_fewer k (model m) proper (known_minimal c.args.m)), subst (FewerKeys (model m)) (sym b) (separating_short short_separation k (model m) proper (known_minimal c.args.m)));
     }
