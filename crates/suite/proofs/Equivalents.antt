@@ -19,6 +19,7 @@ all_joined : (P : Word → Type 0) (f : ℕ → List Word) → ((x : ℕ) → Al
 all_joined P f h [] = tt
 all_joined P f h (x ∷ xs) = All-append P (f x) (flat_map f xs) (h x) (all_joined P f h xs)
 
+-- a first word that reaches a state is a word of keys, if the words are
 first_reaching_keys : (k : ℕ) (m : Machine) (s : ℕ) (ws : List Word) → AllByRecursion (Keys k) ws → Keys k (first_reaching m s ws)
 unfolding first_reaching
 first_reaching_keys k m s [] h = tt

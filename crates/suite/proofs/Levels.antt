@@ -61,9 +61,8 @@ kept_from_push k e ws earlier (u ∷ vs) v =
 
 -- one word in front more
 pub front_more : (k e : ℕ) (ws : List Word) (vs : List ByValue) (i : ℕ) (x : ByValue) → i < length vs → x ≡ get_or vs i x →
-    kept k e (take i (words_of vs)) ws ++ kept_behind k e ws (words_of (take (i - 0) vs)) (word_of x) (suc e) ≡ kept k e (take (i + 1) (words_of vs)) ws
+    kept k e (take i (words_of vs)) ws ++ kept_behind k e ws (words_of (take i vs)) (word_of x) (suc e) ≡ kept k e (take (i + 1) (words_of vs)) ws
 front_more k e ws vs i x l is =
-    let zero_less : i - 0 ≡ i = omega arith in
-    ap (λ z. kept k e (take i (words_of vs)) ws ++ kept_behind k e ws z (word_of x) (suc e)) (ap (λ n. words_of (take n vs)) zero_less ∙ sym (take-map word_of i vs))
+    ap (λ z. kept k e (take i (words_of vs)) ws ++ kept_behind k e ws z (word_of x) (suc e)) (sym (take-map word_of i vs))
     ∙ kept_from_push k e ws [] (take i (words_of vs)) (word_of x)
     ∙ ap (λ z. kept k e z ws) (sym (take_more (words_of vs) i [] (omega (arith, length-map vs word_of)) ∙ ap (λ z. take i (words_of vs) ++ z ∷ []) (word_at vs i x l is)))

@@ -4,16 +4,15 @@ pub mod Different
 pub mod Equivalents
 pub mod Ends
 pub mod Feeding
-pub mod Levels
+pub mod Held
+mod Levels
 pub mod Members
 pub mod Once
 pub mod Passing
-pub mod Pieces
 pub mod Places
 pub mod Repeats
-pub mod Splices
 pub mod TakenApart
 pub mod Tested
 pub mod TestsRow
 pub mod WithKey
-pub mod Writes
+pub mod Marked

@@ -5,7 +5,7 @@ use Rattle.std.proofs.ByRecursion.{All-weaker}
 use Rattle.std.proofs.lemmas.List.{map-append}
 use Rattle.machine.specs.Machine.{Word, Keys}
 use Rattle.machine.specs.Words.{each_behind, products, of_length, up_to, listed, once_from, once}
-use Rattle.suite.specs.Kept.{Different, any, parts, some_parts, repeats, without, kept_behind, kept_from, kept}
+use Rattle.suite.specs.Kept.{Different, parts, some_parts, repeats, without, kept_behind, kept_from, kept}
 use Rattle.suite.specs.Suite.{with_key, candidates, suite}
 use Rattle.suite.proofs.Any.{any_push}
 use Rattle.suite.proofs.Different.{once_from_append, once_from_different, listed_append, kept_by_same, different_products, different_behind, different_of_length}
@@ -70,7 +70,7 @@ module _ (k e : ℕ) (ws : List Word) (ws_keys : AllByRecursion (Keys k) ws) (di
 
 -- each test once, without looking at those before
 pub kept_once : (k e : ℕ) (vs ws : List Word) → AllByRecursion (Keys k) vs → AllByRecursion (Keys k) ws → Different ws → once (products (products vs (up_to k e)) ws) ≡ kept k e vs ws
-unfolding any listed
+unfolding listed
 kept_once k e vs ws all_v all_w different = each_front k e ws all_w different [] [] vs all_v (λ c _. refl)
 
 -- so for a suite: in front are the words that reach, and each of them followed by one key

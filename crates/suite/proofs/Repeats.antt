@@ -1,11 +1,12 @@
 -- A word has come up before exactly if it ends at a marked place, or can be taken apart with a longer word in front. Assumes nothing.
+use Rattle.std.specs.List.{list_any}
 use Rattle.std.proofs.Common.{◌≡◌, ℕ, suc, ◌+◌, ◌-◌, ◌<◌, ◌≤◌, Bool, true, false, ◌&&◌, ◌||◌, ltb, leb, ◌⊎◌, List, ◌++◌, length, get_or, take, drop, sym, refl, ap, ◌∙◌, inl, inr, arith, length-take}
 use Rattle.std.proofs.lemmas.List.{take-append-le, take-take, take_at}
 use Rattle.std.proofs.lemmas.Bool.{cases_lt, and_parts, and_from, or_cases, or_left, or_right, leb-true, le-leb, ltb-true, lt-ltb}
 use Rattle.machine.specs.Machine.{Word}
 use Rattle.machine.specs.Words.{same}
 use Rattle.suite.specs.Enumeration.{within, marks, marked, ends_marked, longer}
-use Rattle.suite.specs.Kept.{begins, ends, any, some_end, parts, some_parts, repeats}
+use Rattle.suite.specs.Kept.{begins, ends, some_end, parts, some_parts, repeats}
 use Rattle.suite.proofs.Any.{any_true, any_from}
 use Rattle.suite.proofs.Different.{same_tests}
 use Rattle.suite.proofs.Members.{In, same_true, eq_same}
@@ -75,7 +76,7 @@ ends_marked_from at c z l y e = and_from (leb (length z) (length c)) _ (le-leb (
 module _ (e j own : ℕ) (ws earlier : List Word) (f w : Word) (at : List Bool) (l : Bool)
     (inside : own ≤ length f) (short : length (f ++ w) < 36)
     (places : (m : ℕ) → m < 36 → get_or at m false ≡ marked e earlier own j f m)
-    (long : l ≡ any (longer f) earlier) where
+    (long : l ≡ list_any (longer f) earlier) where
   abbrev c : Word
   c = f ++ w
 
@@ -99,7 +100,7 @@ module _ (e j own : ℕ) (ws earlier : List Word) (f w : Word) (at : List Bool) 
   at_marked : (z : Word) → In z ws → length z ≤ length c → z ≡ drop (length c - length z) c → marked e earlier own j f (length c - length z) ≡ true → repeats e ws earlier v j c ≡ true
   unfolding marked repeats
   at_marked z i h g y =
-      elim (or_cases (within own j (length c - length z)) (any (marks (suc e) f (length c - length z)) earlier) y) [
+      elim (or_cases (within own j (length c - length z)) (list_any (marks (suc e) f (length c - length z)) earlier) y) [
         | inl a ↦ or_right (some_parts (suc e) ws earlier c) (parts j ws v c) (mine (within_true own j (length c - length z) a))
         | inr b ↦ or_left (some_parts (suc e) ws earlier c) (parts j ws v c) (other (any_true (marks (suc e) f (length c - length z)) earlier b))
       ]
@@ -118,7 +119,7 @@ module _ (e j own : ℕ) (ws earlier : List Word) (f w : Word) (at : List Bool) 
               parts_from (suc e) ws p c z (front p t.0) i (record { room = omega arith; close = omega arith; end = g })
 
   -- if c ends with one of the words at a place with a mark, c has come up before
-  marked_repeats : any (ends_marked at c) ws ≡ true → repeats e ws earlier v j c ≡ true
+  marked_repeats : list_any (ends_marked at c) ws ≡ true → repeats e ws earlier v j c ≡ true
   marked_repeats h = ends_there (any_true (ends_marked at c) ws h)
     where
       ends_there : (z : Word) × In z ws × (ends_marked at c z ≡ true) → repeats e ws earlier v j c ≡ true
@@ -127,45 +128,45 @@ module _ (e j own : ℕ) (ws earlier : List Word) (f w : Word) (at : List Bool) 
           at_marked r.0 r.1 t.0 t.2 (sym (places (length c - length r.0) (omega arith)) ∙ t.1)
 
   -- a place with a mark at which a word ends
-  ends_here : (z : Word) → In z ws → length z ≤ length c → z ≡ drop (length c - length z) c → marked e earlier own j f (length c - length z) ≡ true → any (ends_marked at c) ws ≡ true
+  ends_here : (z : Word) → In z ws → length z ≤ length c → z ≡ drop (length c - length z) c → marked e earlier own j f (length c - length z) ≡ true → list_any (ends_marked at c) ws ≡ true
   ends_here z i h g y = any_from (ends_marked at c) ws z i (ends_marked_from at c z h (places (length c - length z) (omega arith) ∙ y) g)
 
   -- if c has come up before, a mark shows it, or an earlier word does and one goes on from f
-  repeats_marked : repeats e ws earlier v j c ≡ true → (any (ends_marked at c) ws || (l && some_parts (suc e) ws earlier c)) ≡ true
+  repeats_marked : repeats e ws earlier v j c ≡ true → (list_any (ends_marked at c) ws || (l && some_parts (suc e) ws earlier c)) ≡ true
   unfolding repeats marked
   repeats_marked h =
       elim (or_cases (some_parts (suc e) ws earlier c) (parts j ws v c) h) [
         | inl a ↦ other a (any_true (λ p. parts (suc e) ws p c) earlier a)
-        | inr b ↦ or_left (any (ends_marked at c) ws) (l && some_parts (suc e) ws earlier c) (mine (parts_true j ws v c b))
+        | inr b ↦ or_left (list_any (ends_marked at c) ws) (l && some_parts (suc e) ws earlier c) (mine (parts_true j ws v c b))
       ]
     where
-      mine : (v ≡ take (length v) c) × ((z : Word) × In z ws × Ends (length v) j z c) → any (ends_marked at c) ws ≡ true
+      mine : (v ≡ take (length v) c) × ((z : Word) × In z ws × Ends (length v) j z c) → list_any (ends_marked at c) ws ≡ true
       mine r =
           let t = r.1.2 in
           let a = t.room in
           let b = t.close in
-          ends_here r.1.0 r.1.1 (omega arith) t.end (or_left (within own j (length c - length r.1.0)) (any (marks (suc e) f (length c - length r.1.0)) earlier) (within_from own j (length c - length r.1.0) (omega (arith, long_v)) (omega (arith, long_v))))
+          ends_here r.1.0 r.1.1 (omega arith) t.end (or_left (within own j (length c - length r.1.0)) (list_any (marks (suc e) f (length c - length r.1.0)) earlier) (within_from own j (length c - length r.1.0) (omega (arith, long_v)) (omega (arith, long_v))))
 
-      by_length : (p : Word) → In p earlier → (p ≡ take (length p) c) × ((z : Word) × In z ws × Ends (length p) (suc e) z c) → (any (ends_marked at c) ws ≡ true) ⊎ (any (longer f) earlier ≡ true)
+      by_length : (p : Word) → In p earlier → (p ≡ take (length p) c) × ((z : Word) × In z ws × Ends (length p) (suc e) z c) → (list_any (ends_marked at c) ws ≡ true) ⊎ (list_any (longer f) earlier ≡ true)
       by_length p i r =
           elim (cases_lt (length f) (length p)) [
             | inl g ↦ inr (any_from (longer f) earlier p i (longer_from f p g (sym (take_at f w (length f) refl) ∙ sym (take-take (length f) (length p) c (omega arith)) ∙ ap (take (length f)) (sym r.0))))
             | inr g ↦ let t = r.1.2 in let a = t.room in let b = t.close in
-                inl (ends_here r.1.0 r.1.1 (omega arith) t.end (or_right (within own j (length c - length r.1.0)) (any (marks (suc e) f (length c - length r.1.0)) earlier) (any_from (marks (suc e) f (length c - length r.1.0)) earlier p i (marks_from (suc e) f (length c - length r.1.0) p (r.0 ∙ take-append-le (length p) f w g) (omega arith) (omega arith)))))
+                inl (ends_here r.1.0 r.1.1 (omega arith) t.end (or_right (within own j (length c - length r.1.0)) (list_any (marks (suc e) f (length c - length r.1.0)) earlier) (any_from (marks (suc e) f (length c - length r.1.0)) earlier p i (marks_from (suc e) f (length c - length r.1.0) p (r.0 ∙ take-append-le (length p) f w g) (omega arith) (omega arith)))))
           ]
 
-      other : some_parts (suc e) ws earlier c ≡ true → (p : Word) × In p earlier × (parts (suc e) ws p c ≡ true) → (any (ends_marked at c) ws || (l && some_parts (suc e) ws earlier c)) ≡ true
+      other : some_parts (suc e) ws earlier c ≡ true → (p : Word) × In p earlier × (parts (suc e) ws p c ≡ true) → (list_any (ends_marked at c) ws || (l && some_parts (suc e) ws earlier c)) ≡ true
       other a r =
           elim (by_length r.0 r.1 (parts_true (suc e) ws r.0 c r.2)) [
-            | inl y ↦ or_left (any (ends_marked at c) ws) (l && some_parts (suc e) ws earlier c) y
-            | inr y ↦ or_right (any (ends_marked at c) ws) (l && some_parts (suc e) ws earlier c) (and_from l (some_parts (suc e) ws earlier c) (long ∙ y) a)
+            | inl y ↦ or_left (list_any (ends_marked at c) ws) (l && some_parts (suc e) ws earlier c) y
+            | inr y ↦ or_right (list_any (ends_marked at c) ws) (l && some_parts (suc e) ws earlier c) (and_from l (some_parts (suc e) ws earlier c) (long ∙ y) a)
           ]
 
   -- so the marks, and the earlier words if one goes on from f, tell whether c has come up before
-  pub repeats_found : (any (ends_marked at c) ws || (l && some_parts (suc e) ws earlier c)) ≡ repeats e ws earlier v j c
+  pub repeats_found : (list_any (ends_marked at c) ws || (l && some_parts (suc e) ws earlier c)) ≡ repeats e ws earlier v j c
   unfolding repeats
-  repeats_found = same_tests (any (ends_marked at c) ws || (l && some_parts (suc e) ws earlier c)) (repeats e ws earlier v j c)
-      (λ h. elim (or_cases (any (ends_marked at c) ws) (l && some_parts (suc e) ws earlier c) h) [
+  repeats_found = same_tests (list_any (ends_marked at c) ws || (l && some_parts (suc e) ws earlier c)) (repeats e ws earlier v j c)
+      (λ h. elim (or_cases (list_any (ends_marked at c) ws) (l && some_parts (suc e) ws earlier c) h) [
         | inl a ↦ marked_repeats a
         | inr b ↦ or_left (some_parts (suc e) ws earlier c) (parts j ws v c) (and_parts l (some_parts (suc e) ws earlier c) b).1
       ])

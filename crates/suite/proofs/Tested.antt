@@ -1,11 +1,11 @@
 -- From the cover of a minimal machine to its tests, and to the answer of the call that writes them. Assumes nothing.
-use Rattle.std.proofs.Common.{◌≡◌, ℕ, ◌+◌, ◌-◌, ◌<◌, ◌≤◌, leb, List, [], ◌∷◌, length, take, drop, Ok, Err, Result, refl, ap, ◌∙◌, inr, arith}
+use Rattle.std.proofs.Common.{◌≡◌, ℕ, ◌+◌, ◌<◌, ◌≤◌, leb, List, [], ◌∷◌, length, take, drop, Ok, Err, Result, refl, sym, ap, ◌∙◌, inr, arith, length-take}
 use Rattle.std.proofs.ByRecursion.{All-weaker}
-use Rattle.std.proofs.lemmas.List.{length-map, length-take}
+use Rattle.std.proofs.lemmas.List.{length-map}
 use Rattle.std.proofs.lemmas.Bool.{cond_both}
 use Rattle.machine.specs.declared.refusals.Refusal.{Refusal}
 use Rattle.machine.specs.declared.view.Machine.{Machine as View}
-use Rattle.machine.specs.Machine.{Machine, Word, Proper, Minimal}
+use Rattle.machine.specs.Machine.{Machine, Proper, Minimal}
 use Rattle.machine.specs.Refusals.{reason_of}
 use Rattle.machine.specs.Row.{keys_in, machine_in}
 use Rattle.machine.specs.Run.{model, keys_of}
@@ -15,16 +15,18 @@ use Rattle.machine.proofs.Views.{view_accepted, view_proper, view_states}
 use Rattle.minimal.proofs.Moore.{short_separation}
 use Rattle.cover.specs.Cover.{access_words, separating_words, telling_words}
 use Rattle.cover.specs.Covered.{access_of, separating_of}
-use Rattle.cover.specs.Words.{word_of, words_of}
+use Rattle.cover.specs.Words.{word_of}
 use Rattle.cover.specs.declared.cover.Cover.{Cover}
 use Rattle.cover.proofs.Access.{length_access, access_words_fewer, access_words_reach}
 use Rattle.cover.proofs.Separating.{separating_separates}
 use Rattle.suite.specs.Answer.{Testable, Follows, TestsAnswered, made}
-use Rattle.suite.specs.Kept.{Different}
-use Rattle.suite.specs.Suite.{suite, tests}
+use Rattle.suite.specs.Kept.{Different, kept}
+use Rattle.suite.specs.Suite.{with_key, suite, tests}
 use Rattle.suite.specs.Written.{MakesTests, TestsWritten, words_in, room_for}
+use Rattle.suite.proofs.Counts.{tests_low}
 use Rattle.suite.proofs.Different.{different_once}
 use Rattle.suite.proofs.Equivalents.{access_words_keys, separating_words_keys, equivalent_passes}
+use Rattle.suite.proofs.Once.{suite_kept}
 use Rattle.suite.proofs.Passing.{passing_suite_is_equivalent}
 use Rattle.suite.proofs.TestsRow.{tests_read_back}
 
@@ -48,49 +50,33 @@ view_makes v e minimal few_extra =
       different = different_separating k m;
     }
 
--- a cover's words, as a part of its array
-module _ (c : Cover) where
-  pub access_part : words_of (take (c.states - 0) c.access) ≡ access_of c
-  access_part = let z : c.states - 0 ≡ c.states = omega arith in ap (λ n. words_of (take n c.access)) z
+-- there are at most 120 separating words in a cover
+separating_low : (c : Cover) → length (separating_of c) ≤ 120
+separating_low c =
+    let room = c.room in
+    omega (arith, length-map (take c.count c.separating) word_of, length-take c.count c.separating)
 
-  pub separating_part : words_of (take (c.count - 0) c.separating) ≡ separating_of c
-  separating_part = let z : c.count - 0 ≡ c.count = omega arith in ap (λ n. words_of (take n c.separating)) z
+-- the cover of a minimal machine, with its number of keys and at most three extra states
+module _ (v : View) (e keys : ℕ) (c : Cover) (same : keys ≡ keys_of v) (access : access_of c ≡ access_words (keys_of v) (model v))
+    (separating : separating_of c ≡ separating_words (keys_of v) (model v)) (minimal : Minimal (keys_of v) (model v)) (few_extra : e ≤ 3) where
+  -- its words make tests
+  pub cover_makes : MakesTests keys e (access_of c) (separating_of c)
+  cover_makes = rw (same, access, separating) (view_makes v e minimal few_extra)
 
-  -- there are at most 120 separating words
-  pub part_low : length (words_of (take (c.count - 0) c.separating)) ≤ 120
-  part_low =
-      let a = length-map (take (c.count - 0) c.separating) word_of in
-      let b = length-take (c.count - 0) c.separating in
-      let f = c.room in
-      omega arith
-
--- the cover of a view, with its number of keys
-module _ (v : View) (e keys : ℕ) (c : Cover) (same : keys ≡ keys_of v)
-    (access : access_of c ≡ access_words (keys_of v) (model v)) (separating : separating_of c ≡ separating_words (keys_of v) (model v)) where
-  -- the words of the cover that reach
-  abbrev qs : List Word
-  qs = words_of (take (c.states - 0) c.access)
-
-  -- the words of the cover that tell apart
-  abbrev ws : List Word
-  ws = words_of (take (c.count - 0) c.separating)
-
-  -- those that reach are the access words of the machine
-  qs_is : qs ≡ access_words (keys_of v) (model v)
-  qs_is = access_part c ∙ access
-
-  -- those that tell apart are its separating words
-  ws_is : ws ≡ separating_words (keys_of v) (model v)
-  ws_is = separating_part c ∙ separating
-
-  -- if the machine is minimal and there are at most three extra states, they make tests
-  pub cover_makes : Minimal (keys_of v) (model v) → e ≤ 3 → MakesTests keys e (words_of (take (c.states - 0) c.access)) (words_of (take (c.count - 0) c.separating))
-  cover_makes minimal few_extra = rw (same, qs_is, ws_is) (view_makes v e minimal few_extra)
-
-  -- the tests that they make are the tests of the machine
-  pub cover_suite : suite keys e (words_of (take (c.states - 0) c.access)) (words_of (take (c.count - 0) c.separating)) ≡ tests (keys_of v) e (model v)
+  -- the tests that they make are the tests of the machine, and with its access words and these, each followed by each key, in front each is kept once
+  pub cover_made : kept keys e (with_key keys (access_of c)) (separating_of c) ≡ tests (keys_of v) e (model v)
   unfolding tests
-  cover_suite = ap (λ z. suite z e qs ws) same ∙ ap (λ z. suite (keys_of v) e z ws) qs_is ∙ ap (suite (keys_of v) e (access_words (keys_of v) (model v))) ws_is
+  cover_made =
+      let makes = cover_makes in
+      sym (suite_kept keys e (access_of c) (separating_of c) makes.reach_keys makes.end_keys makes.different)
+      ∙ ap (λ k. suite k e (access_of c) (separating_of c)) same ∙ ap (λ qs. suite (keys_of v) e qs (separating_of c)) access ∙ ap (suite (keys_of v) e (access_words (keys_of v) (model v))) separating
+
+  -- and there are not too many of them to count
+  pub cover_low : length (tests (keys_of v) e (model v)) ≤ 10108800
+  cover_low =
+      let makes = cover_makes in
+      rw (← cover_made, ← suite_kept keys e (access_of c) (separating_of c) makes.reach_keys makes.end_keys makes.different)
+      (tests_low keys e (access_of c) (separating_of c) makes.few_keys makes.few_extra makes.few (separating_low c))
 
 -- what follows from passing the tests
 pub tests_follow : (k e : ℕ) (m : Machine) → Proper k m → Minimal k m → Follows k e m (tests k e m)

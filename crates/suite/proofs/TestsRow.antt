@@ -1,20 +1,14 @@
 -- Counting tests, writing them into a row, and reading them back. Assumes nothing.
-use Rattle.std.proofs.Common.{◌≡◌, ℕ, zero, suc, ◌+◌, ◌-◌, ◌^◌, ◌<◌, ◌≤◌, min, List, [], ◌∷◌, ◌++◌, length, get_or, take, drop, set, sym, refl, ap, ◌∙◌, append_assoc, arith, length-append, length-set, length-take}
+use Rattle.std.proofs.Common.{◌≡◌, ℕ, zero, suc, ◌+◌, ◌^◌, ◌<◌, ◌≤◌, min, List, [], ◌∷◌, ◌++◌, length, get_or, take, drop, set, sym, refl, ap, ◌∙◌, append_assoc, arith, length-append, length-set, length-take}
 use Rattle.std.proofs.lemmas.List.{take-append-drop, take_at, drop_at, drop-drop, get_or_at, take_more_set, drop-set-lt}
-use Rattle.cover.specs.Words.{words_of}
 use Rattle.machine.specs.Machine.{Word}
 use Rattle.machine.specs.Row.{word_in}
-use Rattle.suite.specs.declared.fronts.Fronts.{Fronts}
 use Rattle.suite.specs.declared.sinks.Tally.{Tally}
 use Rattle.suite.specs.declared.sinks.Writer.{Writer}
 use Rattle.suite.specs.Enumeration.{Fed}
-use Rattle.suite.specs.Fronts.{fronts_of}
-use Rattle.suite.specs.Kept.{kept}
 use Rattle.suite.specs.Promises.{TestsReadBack}
 use Rattle.suite.specs.Sinks.{Tallied, Wrote}
-use Rattle.suite.specs.Suite.{with_key, suite}
-use Rattle.suite.specs.Written.{MakesTests, word_out, words_out, room_for, tests_row, words_in}
-use Rattle.suite.proofs.Once.{suite_kept}
+use Rattle.suite.specs.Written.{word_out, words_out, room_for, tests_row, words_in}
 
 -- a row needs a number for each test at least
 pub tests_less : (ts : List Word) → length ts ≤ room_for ts
@@ -153,10 +147,3 @@ written_row ts out n s t fed row at count fits =
     ∙ ap (λ z. take 1 z ++ (words_out ts ++ drop (1 + room_for ts) z)) row
     ∙ ap (λ z. z ++ (words_out ts ++ drop (1 + room_for ts) (set out 0 n))) (take_more_set out 0 n (omega arith) ∙ ap (λ z. z ∷ []) count)
     ∙ ap (λ z. length ts ∷ (words_out ts ++ z)) (drop-set-lt (1 + room_for ts) out 0 n (omega arith))
-
--- the list that the enumeration hands on is the suite
-pub handed_suite : (k e : ℕ) (qs ws : List Word) (fronts : Fronts) → MakesTests k e qs ws → fronts_of fronts ≡ with_key k qs →
-    kept k e (words_of (take (fronts.count - 0) fronts.words)) ws ≡ suite k e qs ws
-handed_suite k e qs ws fronts makes same =
-    let z : fronts.count - 0 ≡ fronts.count = omega arith in
-    ap (λ n. kept k e (words_of (take n fronts.words)) ws) z ∙ ap (λ vs. kept k e vs ws) same ∙ sym (suite_kept k e qs ws makes.reach_keys makes.end_keys makes.different)

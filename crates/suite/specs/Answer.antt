@@ -1,12 +1,12 @@
 -- For which machines there are tests, and what the call that writes them answers and leaves behind. Assumes nothing: these are definitions.
 use Rattle.std.specs.Prelude.{◌≡◌, ℕ, ◌+◌, ◌^◌, ◌<◌, ◌≤◌, min, ◌⊎◌, List, ◌++◌, length, drop, Some, None, Ok, Err, Result}
-use Rattle.machine.specs.declared.reading.Shape.{Shape}
 use Rattle.machine.specs.declared.refusals.Refusal.{Refusal}
 use Rattle.machine.specs.Machine.{Machine, Word, Proper, Minimal, Equivalent}
-use Rattle.machine.specs.Reading.{Heads}
 use Rattle.machine.specs.Refusals.{Reason, reason, reason_of, row_refusal}
 use Rattle.machine.specs.Row.{keys_in, machine_in}
+use Rattle.machine.specs.Run.{model, keys_of}
 use Rattle.minimal.specs.Minimal.{FirstRedundant}
+use Rattle.suite.specs.declared.specification.Specification.{Specification}
 use Rattle.suite.specs.Suite.{tests, Passes}
 use Rattle.suite.specs.Written.{room_for, tests_row, words_in}
 
@@ -22,9 +22,15 @@ pub data Untestable (row : List ℕ) (e : ℕ) (r : Reason) : Type 0 where
   not_minimal : row_refusal row ≡ None → (s : ℕ) → FirstRedundant (keys_in row) (machine_in row) s → r ≡ reason 3 s → Untestable row e r
   too_many_extra : row_refusal row ≡ None → Minimal (keys_in row) (machine_in row) → 3 < e → r ≡ reason 4 e → Untestable row e r
 
+-- what was found is the machine in the row, with that many extra states
+pub record Specifies (row : List ℕ) (e : ℕ) (s : Specification) : Type 0 where
+  pub machine : model s.machine ≡ machine_in row
+  pub keys : keys_of s.machine ≡ keys_in row
+  pub extra : s.extra ≡ e
+
 -- whether there are tests
-abbrev pub Prepared : List ℕ → ℕ → Result Shape Refusal → Type 0
-Prepared row e (Ok shape) = Testable row e × Heads row shape
+abbrev pub Prepared : List ℕ → ℕ → Result Specification Refusal → Type 0
+Prepared row e (Ok s) = Testable row e × Specifies row e s
 Prepared row e (Err f) = Untestable row e (reason_of f)
 
 -- the tests for the machine in a row

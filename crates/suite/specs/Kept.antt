@@ -1,4 +1,5 @@
 -- The tests, each once, told without looking at those before: a test is left out if it can be taken apart in an earlier way. Assumes nothing: these are definitions.
+use Rattle.std.specs.List.{list_any}
 use Rattle.std.specs.Prelude.{◌≡◌, ℕ, zero, suc, ◌+◌, ◌-◌, Bool, false, not, ◌&&◌, ◌||◌, List, [], ◌∷◌, ◌++◌, length, take, drop, filter, nat_le, nat_lt}
 use Rattle.machine.specs.Machine.{Word}
 use Rattle.machine.specs.Words.{each_behind, products, of_length, same, listed}
@@ -16,14 +17,9 @@ begins p c = same p (take (length p) c)
 unfoldable pub ends : ℕ → ℕ → Word → Word → Bool
 ends m n w c = nat_le (m + length w) (length c) && (nat_lt (length c) (m + length w + n) && same w (drop (length c - length w) c))
 
--- one of some words passes a test
-unfoldable pub any : (Word → Bool) → List Word → Bool
-any f [] = false
-any f (w ∷ ws) = f w || any f ws
-
 -- c ends so with one of some words
 abbrev pub some_end : ℕ → ℕ → List Word → Word → Bool
-some_end m n ws c = any (λ w. ends m n w c) ws
+some_end m n ws c = list_any (λ w. ends m n w c) ws
 
 -- c is p, then fewer than n keys, then one of some words
 unfoldable pub parts : ℕ → List Word → Word → Word → Bool
@@ -31,7 +27,7 @@ parts n ws p c = begins p c && some_end (length p) n ws c
 
 -- c is made so with one of some words in front
 abbrev pub some_parts : ℕ → List Word → List Word → Word → Bool
-some_parts n ws ps c = any (λ p. parts n ws p c) ps
+some_parts n ws ps c = list_any (λ p. parts n ws p c) ps
 
 -- a word with v in front and j keys behind it has come up before: with an earlier word in front, or with v and fewer keys behind it
 unfoldable pub repeats : ℕ → List Word → List Word → Word → ℕ → Word → Bool

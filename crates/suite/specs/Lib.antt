@@ -1,5 +1,6 @@
 pub mod Answer
 pub mod Enumeration
+pub mod Factors
 pub mod Fronts
 pub mod Kept
 pub mod Promises

@@ -1,122 +1,79 @@
 // Taking a word apart: whether it begins with one word and ends with another.
-ghost use Rattle.std.specs.Prelude.{◌≡◌, ◌+◌, ◌<◌, ◌≤◌, length};
+ghost use Rattle.std.specs.List.{list_any};
+ghost use Rattle.std.specs.Prelude.{◌≡◌};
 ghost use Rattle.cover.specs.Words.{word_of, words_of};
-ghost use Rattle.machine.specs.Words.{same};
 ghost use Rattle.suite.specs.Enumeration.{ends_marked, longer};
-ghost use Rattle.suite.specs.Kept.{begins, ends, any, some_end, parts, some_parts};
+ghost use Rattle.suite.specs.Kept.{begins, ends, parts};
 
-use crate::values::Marks;
+use crate::values::{Candidate, Marks, keys_of};
 use cover::Word;
 
-fn equal(a: &[u64], b: &[u64]) -> bool
-    ensures { result ≡ same a.now b.now }
+// Whether the word begins with `front`.
+pub(crate) fn begins(front: &Word, word: &[u64]) -> bool
+    ensures { result ≡ begins (word_of front.now) word.now }
 {
-    if a.len() != b.len() {
-        return false;
-    }
-    for i in 0..a.len() {
-        if a[i] != b[i] {
-            return false;
-        }
-    }
-    true
-}
-
-// Whether the word begins with `p`.
-pub(crate) fn begins(p: &Word, word: &[u64]) -> bool
-    ensures { result ≡ begins (word_of p.now) word.now }
-{
-    if p.len > word.len() {
-        return false;
-    }
-    equal(&p.keys[0..p.len], &word[0..p.len])
+    word.starts_with(keys_of(front))
 }
 
 // Whether one of some words is longer than `front` and begins with it.
 pub(crate) fn some_longer(words: &[Word], front: &[u64]) -> bool
-    ensures { result ≡ any (longer front.now) (words_of words.now) }
+    ensures { result ≡ list_any (λ word. longer front.now (word_of word)) words.now }
 {
-    for i in 0..words.len() {
-        if is_longer(&words[i], front) {
-            return true;
-        }
-    }
-    false
+    words.iter().any(|word| is_longer(word, front))
 }
 
 fn is_longer(word: &Word, front: &[u64]) -> bool
     ensures { result ≡ longer front.now (word_of word.now) }
 {
-    word.len > front.len() && equal(front, &word.keys[0..front.len()])
+    let word = keys_of(word);
+    word.len() > front.len() && word.starts_with(front)
 }
 
 // Whether the word ends with `end`, with at least `least` keys before it and fewer than `least + n`.
 fn ends(least: usize, n: usize, end: &Word, word: &[u64]) -> bool
-    requires { (least ≤ 64) × (n ≤ 64) }
     ensures { result ≡ ends least n (word_of end.now) word.now }
 {
-    let len = word.len();
-    if len < least + end.len || len >= least + end.len + n {
+    let end = keys_of(end);
+    let Some(before) = word.len().checked_sub(end.len()) else {
         return false;
-    }
-    equal(&end.keys[0..end.len], &word[len - end.len..len])
+    };
+    before >= least && before - least < n && word.ends_with(end)
 }
 
 // Whether the word ends so with one of some words.
 fn some_end(least: usize, n: usize, words: &[Word], word: &[u64]) -> bool
-    requires { (least ≤ 64) × (n ≤ 64) }
-    ensures { result ≡ some_end least n (words_of words.now) word.now }
+    ensures { result ≡ list_any (λ end. ends least n (word_of end) word.now) words.now }
 {
-    for i in 0..words.len() {
-        if ends(least, n, &words[i], word) {
-            return true;
-        }
-    }
-    false
+    words.iter().any(|end| ends(least, n, end, word))
 }
 
 // Whether the word is one of the words in front, fewer than `n` keys, and one of the ends.
 pub(crate) fn some_parts(n: usize, fronts: &[Word], words: &[Word], word: &[u64]) -> bool
-    requires { n ≤ 64 }
-    ensures { result ≡ some_parts n (words_of words.now) (words_of fronts.now) word.now }
+    ensures { result ≡ list_any (λ front. parts n (words_of words.now) (word_of front) word.now) fronts.now }
 {
-    for i in 0..fronts.len() {
-        if parts(n, &fronts[i], words, word) {
-            return true;
-        }
-    }
-    false
+    fronts.iter().any(|front| parts(n, front, words, word))
 }
 
 fn parts(n: usize, front: &Word, words: &[Word], word: &[u64]) -> bool
-    requires { n ≤ 64 }
     ensures { result ≡ parts n (words_of words.now) (word_of front.now) word.now }
 {
     begins(front, word) && some_end(front.len, n, words, word)
 }
 
-// Whether the word ends with `end`, at a marked place.
-fn ends_marked(marks: &Marks, end: &Word, word: &[u64]) -> bool
-    requires { length word.now ≤ 35 }
-    ensures { result ≡ ends_marked marks.now.at word.now (word_of end.now) }
+// Whether the test ends with `end`, at a marked place.
+fn ends_marked(marks: &Marks, end: &Word, test: &Candidate) -> bool
+    ensures { result ≡ ends_marked marks.now test.now.items (word_of end.now) }
 {
-    let len = word.len();
-    if end.len > len {
+    let end = keys_of(end);
+    let Some(before) = test.len().checked_sub(end.len()) else {
         return false;
-    }
-    let at = len - end.len;
-    marks.at[at] && equal(&end.keys[0..end.len], &word[at..len])
+    };
+    marks[before] && test.ends_with(end)
 }
 
-// Whether the word ends with one of some words, at a marked place.
-pub(crate) fn some_end_marked(marks: &Marks, words: &[Word], word: &[u64]) -> bool
-    requires { length word.now ≤ 35 }
-    ensures { result ≡ any (ends_marked marks.now.at word.now) (words_of words.now) }
+// Whether the test ends with one of some words, at a marked place.
+pub(crate) fn some_end_marked(marks: &Marks, words: &[Word], test: &Candidate) -> bool
+    ensures { result ≡ list_any (λ end. ends_marked marks.now test.now.items (word_of end)) words.now }
 {
-    for i in 0..words.len() {
-        if ends_marked(marks, &words[i], word) {
-            return true;
-        }
-    }
-    false
+    words.iter().any(|end| ends_marked(marks, end, test))
 }

@@ -48,12 +48,12 @@ pub(crate) fn with_key(access: &[Word], keys: u64) -> Fronts
     ensures { fronts_of result ≡ with_key keys (words_of access.now) }
 {
     let mut fronts = nothing();
-    'plain: for i in 0..access.len() {
-        push(&mut fronts, access[i]);
+    'plain: for word in access {
+        push(&mut fronts, *word);
     }
-    'keyed: for i in 0..access.len() {
+    'keyed: for word in access {
         for key in 0..keys {
-            push(&mut fronts, longer(&access[i], key));
+            push(&mut fronts, longer(word, key));
         }
     }
     fronts

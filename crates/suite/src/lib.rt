@@ -3,13 +3,16 @@
 
 mod apart;
 mod enumeration;
+mod factors;
 mod fronts;
 mod keyed;
+mod making;
 mod marks;
 mod promises;
 mod rows;
 mod sink;
 mod sinks;
+mod specification;
 mod values;
 mod writing;
 
@@ -19,4 +22,5 @@ pub use promises::{
 };
 pub use rows::test_at;
 pub use sink::Sink;
-pub use writing::{each_test_for, prepare, write_tests};
+pub use specification::Specification;
+pub use writing::{prepare, write_tests};

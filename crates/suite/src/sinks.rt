@@ -25,7 +25,7 @@ pub struct Writer<'a> {
 fn plus(a: u64, b: u64) -> u64
     ensures { result ≡ capped a b }
 {
-    if a >= CAP || b >= CAP - a { CAP } else { a + b }
+    a.saturating_add(b).min(CAP)
 }
 
 impl Sink for Tally {
@@ -43,9 +43,7 @@ fn write_word(row: &mut [u64], at: usize, word: &[u64])
     ensures { row.new ≡ take at row.old ++ (word_out word.now ++ drop (at + suc (length word.now)) row.old) }
 {
     row[at] = word.len() as u64;
-    for i in 0..word.len() {
-        row[at + 1 + i] = word[i];
-    }
+    row[at + 1..at + 1 + word.len()].copy_from_slice(word);
 }
 
 impl Sink for Writer<'_> {

@@ -1,23 +1,15 @@
 // What the enumeration holds by value.
-ghost use Rattle.std.specs.Prelude.{◌≡◌, ◌≤◌, length};
+ghost use Rattle.std.specs.Prelude.{◌≡◌, ◌+◌, ◌≤◌, length};
+ghost use Rattle.cover.specs.Words.{word_of};
 
+use arrayvec::ArrayVec;
 use cover::Word;
 
-// A test, or the beginning of one: the first `len` of `keys`.
-#[derive(Clone, Copy)]
-pub struct Candidate {
-    pub len: usize,
-    pub keys: [u64; 35],
-    ghost short: { len ≤ 35 },
-    ghost long: { length keys ≡ 35 },
-}
+// A test, or the beginning of one.
+pub type Candidate = ArrayVec<u64, 35>;
 
 // Which places of a candidate are marked.
-#[derive(Clone, Copy)]
-pub struct Marks {
-    pub at: [bool; 36],
-    ghost long: { length at ≡ 36 },
-}
+pub type Marks = [bool; 36];
 
 // What a candidate is measured against: the words in front that come before its own, the words that it may end with, how many keys its
 // own word in front has, how many more stand behind that, and how many may.
@@ -28,4 +20,14 @@ pub struct Against<'a> {
     pub own: usize,
     pub between: usize,
     pub extra: usize,
+    ghost room: { own + between ≤ 19 },
+    ghost few_extra: { extra ≤ 3 },
+}
+
+// The keys of a word.
+pub(crate) fn keys_of(word: &Word) -> &[u64]
+    ensures value { result.now ≡ word_of word.now }
+    ensures fits { length result.now ≤ 16 }
+{
+    &word.keys[..word.len]
 }

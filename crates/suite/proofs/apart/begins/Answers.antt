@@ -1,8 +1,8 @@
-use Rattle.suite.proofs.Pieces.{begins_short, begins_part}
+use Rattle.std.proofs.Common.{arith}
+use Rattle.suite.specs.Kept.{begins}
+use Rattle.suite.proofs.Places.{same_is}
 use Rattle.suite.proofs.apart.begins.Goals as goal
 
-pub returns-then-p-word : goal.returns-then-p-word
-returns-then-p-word c = begins_short c.args.p.now c.args.word.now c.if-p-word.true
-
 pub returns : goal.returns
-returns c = begins_part c.args.p.now c.args.word.now c.equal.result c.equal.ensures
+unfolding begins
+returns c = grind (arith, same_is, c.starts_with.ensures.value, c.keys_of.ensures)

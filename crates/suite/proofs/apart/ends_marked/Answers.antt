@@ -1,12 +1,17 @@
-use Rattle.std.proofs.Common.{◌∙◌}
-use Rattle.suite.proofs.Pieces.{marked_short, marked_not, marked_part}
+use Rattle.std.proofs.Common.{arith}
+use Rattle.std.proofs.lemmas.Bool.Decides.{nat_tests}
+use Rattle.suite.specs.Enumeration.{ends_marked}
+use Rattle.suite.proofs.Places.{same_is}
 use Rattle.suite.proofs.apart.ends_marked.Goals as goal
 
-pub returns-then-end-len : goal.returns-then-end-len
-returns-then-end-len c = marked_short c.args.end.now c.args.word.now c.args.marks.now.at c.if-end-len.true
+pub returns-in_default : goal.returns-in_default
+unfolding ends_marked
+returns-in_default c = grind (arith, nat_tests, c.in_default.ensures)
 
-pub returns-then-marks-at : goal.returns-then-marks-at
-returns-then-marks-at c = marked_part c.args.end.now c.args.word.now c.args.marks.now.at c.equal.result c.if-end-len.false c.if-marks-at.true c.equal.ensures
+pub returns-then-marks-before : goal.returns-then-marks-before
+unfolding ends_marked
+returns-then-marks-before c = grind (arith, nat_tests, same_is, c.ends_with.ensures.value, c.in-Some.ensures, c.keys_of-end.ensures)
 
-pub returns-else-marks-at : goal.returns-else-marks-at
-returns-else-marks-at c = c.if-marks-at.false ∙ marked_not c.args.end.now c.args.word.now c.args.marks.now.at c.if-end-len.false c.if-marks-at.false
+pub returns-else-marks-before : goal.returns-else-marks-before
+unfolding ends_marked
+returns-else-marks-before c = grind (arith, nat_tests, c.in-Some.ensures)

@@ -1,10 +1,14 @@
-use Rattle.std.proofs.Common.{length, ◌∙◌}
-use Rattle.std.proofs.lemmas.Bool.{le-ltb}
-use Rattle.suite.proofs.Pieces.{longer_not, longer_part}
+use Rattle.std.proofs.Common.{arith}
+use Rattle.std.proofs.lemmas.Bool.Decides.{nat_tests}
+use Rattle.suite.specs.Enumeration.{longer}
+use Rattle.suite.specs.Kept.{begins}
+use Rattle.suite.proofs.Places.{same_is}
 use Rattle.suite.proofs.apart.is_longer.Goals as goal
 
 pub returns-then-word-front : goal.returns-then-word-front
-returns-then-word-front c = longer_part c.args.word.now c.args.front.now c.equal.result c.if-word-front.true c.equal.ensures
+unfolding longer begins
+returns-then-word-front c = grind (arith, nat_tests, same_is, c.starts_with.ensures.value, c.keys_of-word.ensures)
 
 pub returns-else-word-front : goal.returns-else-word-front
-returns-else-word-front c = le-ltb (length c.args.front.now) c.args.word.now.len c.if-word-front.false ∙ longer_not c.args.word.now c.args.front.now c.if-word-front.false
+unfolding longer
+returns-else-word-front c = grind (arith, nat_tests, c.keys_of-word.ensures)

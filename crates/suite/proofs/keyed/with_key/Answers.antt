@@ -11,31 +11,31 @@ plain-init c = (ap (λ n. words_of (take n c.nothing-fronts.result.words)) c.not
 
 pub plain-preserved : goal.plain-preserved
 plain-preserved c = (
-  plain_more c.args.access.now c.plain.i c.index-access-i.result c.plain-test.true c.index-access-i.is (fronts_of c.plain.fronts) (fronts_of c.push.new.fronts) c.plain.invariant.0 c.push.ensures.0,
+  plain_more c.args.access.now c.plain.word-index c.word-item.result c.plain-test.true c.word-item.is (fronts_of c.plain.fronts) (fronts_of c.push.new.fronts) c.plain.invariant.0 c.push.ensures.0,
   let n = c.plain.invariant.1 in let m = c.push.ensures.1 in omega arith,
 )
 
 pub keyed-init : goal.keyed-init
 keyed-init c = (
-  plain_done c.args.access.now c.plain.i c.args.keys (fronts_of c.plain.fronts) c.plain-test.false c.plain.invariant.0,
-  let n = c.plain.invariant.1 in let z = zero-mul c.args.keys in let a = c.plain-test.false in let b = c.plain.auto.i-end in omega arith,
+  plain_done c.args.access.now c.plain.word-index c.args.keys (fronts_of c.plain.fronts) c.plain-test.false c.plain.invariant.0,
+  let n = c.plain.invariant.1 in let z = zero-mul c.args.keys in let a = c.plain-test.false in let b = c.plain.auto.word-index-end in omega arith,
 )
 
 pub loop-key-init : goal.loop-key-init
 loop-key-init c = (c.keyed.invariant.0 ∙ sym (append-nil _), let n = c.keyed.invariant.1 in omega arith)
 
 pub longer-requires : goal.longer-requires
-longer-requires c = short_word c.args.access.now c.keyed.i c.index-access-i-in-loop-key.result c.keyed-test.true c.index-access-i-in-loop-key.is c.requires.1.1
+longer-requires c = short_word c.args.access.now c.keyed.word-index c.word-item-in-keyed.result c.keyed-test.true c.word-item-in-keyed.is c.requires.1.1
 
 pub push-requires-in-loop-key : goal.push-requires-in-loop-key
 push-requires-in-loop-key c =
     let n = c.loop-key.invariant.1 in
-    omega (arith, place_low (length c.args.access.now) c.keyed.i c.args.keys c.loop-key.key c.requires.0 c.requires.1.0 c.keyed-test.true c.loop-key-test.true)
+    omega (arith, place_low (length c.args.access.now) c.keyed.word-index c.args.keys c.loop-key.key c.requires.0 c.requires.1.0 c.keyed-test.true c.loop-key-test.true)
 
 pub loop-key-preserved : goal.loop-key-preserved
 loop-key-preserved c =
     let ws = c.args.access.now in (
-      key_behind ws c.keyed.i c.index-access-i-in-loop-key.result c.keyed-test.true c.index-access-i-in-loop-key.is (words_of ws ++ products (take c.keyed.i (words_of ws)) (single_keys c.args.keys)) c.loop-key.key
+      key_behind ws c.keyed.word-index c.word-item-in-keyed.result c.keyed-test.true c.word-item-in-keyed.is (words_of ws ++ products (take c.keyed.word-index (words_of ws)) (single_keys c.args.keys)) c.loop-key.key
           (fronts_of c.loop-key.fronts) (fronts_of c.push-in-loop-key.new.fronts) _ c.loop-key.invariant.0 c.push-in-loop-key.ensures.0 c.longer.ensures,
       let n = c.loop-key.invariant.1 in let m = c.push-in-loop-key.ensures.1 in omega arith,
     )
@@ -43,9 +43,9 @@ loop-key-preserved c =
 pub keyed-preserved : goal.keyed-preserved
 keyed-preserved c =
     let all : c.loop-key.key ≡ c.args.keys = let a = c.loop-key-test.false in let b = c.loop-key.auto.key-end in omega arith in (
-      word_done c.args.access.now c.keyed.i c.args.keys c.loop-key.key (fronts_of c.loop-key.fronts) c.keyed-test.true all c.loop-key.invariant.0,
-      c.loop-key.invariant.1 ∙ place_next (length c.args.access.now) c.keyed.i c.args.keys c.loop-key.key all,
+      word_done c.args.access.now c.keyed.word-index c.args.keys c.loop-key.key (fronts_of c.loop-key.fronts) c.keyed-test.true all c.loop-key.invariant.0,
+      c.loop-key.invariant.1 ∙ place_next (length c.args.access.now) c.keyed.word-index c.args.keys c.loop-key.key all,
     )
 
 pub returns : goal.returns
-returns c = all_done c.args.access.now c.keyed.i c.args.keys (fronts_of c.keyed.fronts) c.keyed-test.false c.keyed.invariant.0
+returns c = all_done c.args.access.now c.keyed.word-index c.args.keys (fronts_of c.keyed.fronts) c.keyed-test.false c.keyed.invariant.0

@@ -1,24 +1,18 @@
-use Rattle.std.proofs.Common.{refl, ap, ◌∙◌, inl}
+use Rattle.std.proofs.Common.{◌≡◌, refl, inl}
 use Rattle.std.proofs.lemmas.Result.{err_from_is_err_and}
-use Rattle.machine.specs.Run.{model}
-use Rattle.suite.specs.Suite.{tests}
-use Rattle.suite.proofs.Tested.{cover_makes, cover_suite, answered}
+use Rattle.suite.specs.Answer.{made}
+use Rattle.suite.specs.Factors.{made_of}
+use Rattle.suite.proofs.Tested.{answered}
 use Rattle.suite.proofs.writing.write_tests.Goals as goal
 
-pub returns-in_err-shape : goal.returns-in_err-shape
-returns-in_err-shape c =
+pub returns-in_err-prepare : goal.returns-in_err-prepare
+returns-in_err-prepare c =
     let p = err_from_is_err_and c.from_residual.result c.from_residual.ensures.1 in
-    rw (p.1, p.2) (inl c.in_err-shape.ensures, refl)
-
-pub write_suite-requires : goal.write_suite-requires
-write_suite-requires c =
-    let told = c.in_ok-shape.ensures.0 in
-    cover_makes c.over-m.result c.args.extra c.keys.result c.of-cover.result c.keys.ensures c.of-cover.ensures.access c.of-cover.ensures.separating
-    (simp (c.over-m.ensures.0, c.over-m.ensures.1) told.minimal) told.few_extra
+    rw (p.1, p.2) (inl c.in_err-prepare.ensures, refl)
 
 pub returns : goal.returns
 returns c =
-    let told = c.in_ok-shape.ensures.0 in
-    let same = cover_suite c.over-m.result c.args.extra c.keys.result c.of-cover.result c.keys.ensures c.of-cover.ensures.access c.of-cover.ensures.separating
-    ∙ ap (λ k. tests k c.args.extra (model c.over-m.result)) c.over-m.ensures.1 ∙ ap (tests _ c.args.extra) c.over-m.ensures.0 in
-    answered c.args.row.now c.args.extra c.args.out.now told c.write_suite.result c.write_suite.new.out (simp same at c.write_suite.ensures)
+    let told = c.in_ok-prepare.ensures.0 in
+    let s = c.in_ok-prepare.ensures.1 in
+    let same : made_of c.of.result ≡ made c.args.row.now c.args.extra = rw (c.of.ensures.made, s.machine, s.keys, s.extra) refl in
+    answered c.args.row.now c.args.extra c.args.out.now told c.write_suite.result c.write_suite.new.out (rw same at c.write_suite.ensures)

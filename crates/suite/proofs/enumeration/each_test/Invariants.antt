@@ -1,8 +1,0 @@
-use Rattle.std.proofs.Common.{take}
-use Rattle.cover.specs.Words.{words_of}
-use Rattle.suite.specs.Enumeration.{Fed}
-use Rattle.suite.specs.Kept.{kept}
-use Rattle.suite.proofs.enumeration.each_test.Given as goal
-
-abbrev pub invariant-loop-i : goal.invariant-loop-i
-invariant-loop-i g l = Fed g.S.Sink.step (kept l.keys l.extra (take l.i (words_of l.fronts)) (words_of l.ends)) l.initial.sink l.sink

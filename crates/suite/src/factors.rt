@@ -1,0 +1,15 @@
+// What the tests are made of, by value.
+ghost use Rattle.std.specs.Prelude.{◌≤◌};
+
+use crate::fronts::Fronts;
+use cover::Cover;
+
+// Words in front, keys, at most `extra` of which come behind a word in front, and the words of a cover that tell apart, to end with.
+#[derive(Drop)]
+pub struct Factors {
+    pub fronts: Fronts,
+    pub cover: Cover,
+    pub keys: u64,
+    pub extra: usize,
+    ghost few_extra: { extra ≤ 3 },
+}
