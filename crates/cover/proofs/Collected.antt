@@ -12,9 +12,10 @@ use Rattle.arrayvec.specs.ArrayVec.{ArrayVec}
 use Rattle.machine.specs.Machine.{Machine, Word}
 use Rattle.machine.specs.Words.{In, once_from}
 use Rattle.machine.proofs.Once.{once_again, once_new, length_once}
-use Rattle.cover.specs.Cover.{telling_words}
+use Rattle.cover.specs.Cover.{telling_words, separating_words}
 use Rattle.cover.specs.Words.{word_of, words_of}
 use Rattle.cover.proofs.Keys.{counting_more}
+use Rattle.cover.proofs.Separating.{several_states, one_state}
 use Rattle.cover.proofs.Telling.{telling_word}
 
 -- how many pairs of states below n there are
@@ -117,6 +118,20 @@ module _ (k : ℕ) (m : Machine) where
   -- all pairs were told
   pub kept_all : (ws : List (ArrayVec ℕ)) → KeptTo k m (length m) 0 ws → words_of ws ≡ once_from [] (telling_words k m)
   kept_all ws h = h ∙ ap (once_from []) (told_all k m)
+
+  -- of at most 16 states there are at most 120 pairs, and so many words that tell them apart
+  pub few_separating : length m ≤ 16 → length (separating_words k m) ≤ 120
+  unfolding pairs
+  few_separating few =
+      elim (cases_lt 1 (length m)) [
+        | inl l ↦
+            let a = length_once [] (telling_words k m) in
+            let b = ap length (told_all k m) in
+            let c = length_told k m (length m) 0 in
+            let d = pairs_grow (length m) 16 few in
+            rw (several_states k m l) (omega arith)
+        | inr g ↦ rw (one_state k m g) (omega arith)
+      ]
 
   module _ (s t : ℕ) (ws : List (ArrayVec ℕ)) (h : KeptTo k m s t ws) where
     -- there is room for one word more

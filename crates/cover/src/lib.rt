@@ -10,4 +10,4 @@ mod reaching;
 mod words;
 
 pub use cover::Cover;
-pub use words::{Word, followed};
+pub use words::{Word, copied, followed};

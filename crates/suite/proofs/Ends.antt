@@ -1,7 +1,7 @@
 -- One end more behind a beginning: handed on, or left out since it has come up before. Assumes nothing.
 use Rattle.std.specs.List.{list_any}
-use Rattle.std.proofs.Common.{◌≡◌, ℕ, suc, ◌+◌, ◌<◌, Bool, true, false, ◌&&◌, ◌||◌, List, [], ◌∷◌, ◌++◌, length, get_or, take, sym, ap, ◌∙◌, subst, arith, length-append}
-use Rattle.cover.specs.declared.words.Word.{Word as ByValue}
+use Rattle.std.proofs.Common.{◌≡◌, ℕ, suc, ◌+◌, ◌<◌, ◌≤◌, Bool, true, false, ◌&&◌, ◌||◌, List, [], ◌∷◌, ◌++◌, length, get_or, take, sym, ap, ◌∙◌, subst, arith, length-append}
+use Rattle.arrayvec.specs.ArrayVec.{ArrayVec}
 use Rattle.cover.specs.Words.{word_of, words_of}
 use Rattle.machine.specs.Machine.{Word}
 use Rattle.suite.specs.declared.values.Against.{Against}
@@ -9,11 +9,10 @@ use Rattle.suite.specs.Enumeration.{Fed, fresh_of, marked, ends_marked, longer}
 use Rattle.suite.specs.Kept.{some_parts, repeats}
 use Rattle.suite.proofs.Any.{any_words}
 use Rattle.suite.proofs.Feeding.{fed_append, fed_one, fed_same, fresh_repeated, fresh_new}
-use Rattle.suite.proofs.Places.{length_word}
 use Rattle.suite.proofs.Repeats.{repeats_found}
 
 -- a beginning f, and behind it the end x
-module _ (a : Against) (f : Word) (x : ByValue) (full : length f ≡ a.own + a.between) where
+module _ (a : Against) (f : Word) (x : ArrayVec ℕ) (full : length f ≡ a.own + a.between) (short : length (word_of x) ≤ 16) where
   abbrev ends : List Word
   ends = words_of a.ends.now
 
@@ -31,7 +30,7 @@ module _ (a : Against) (f : Word) (x : ByValue) (full : length f ≡ a.own + a.b
       found ∙ ap (λ z. list_any (ends_marked at z) ends || (l && some_parts (suc a.extra) ends earlier z)) whole
       ∙ repeats_found a.extra a.between a.own ends earlier f (word_of x) at l
       (omega arith)
-      (let room = a.room in let s = x.short in omega (arith, length-append f (word_of x), length_word x))
+      (let room = a.room in omega (arith, length-append f (word_of x)))
       places (long ∙ sym (any_words (longer f) a.earlier.now))
 
   module _ {S : Type 0} (step : S → Word → S → Type 0) (i : ℕ) (inside : i < length a.ends.now) (is : x ≡ get_or a.ends.now i x) (s t : S)

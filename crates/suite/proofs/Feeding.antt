@@ -3,7 +3,7 @@ use Rattle.std.proofs.Common.{◌≡◌, ℕ, ◌+◌, ◌<◌, ◌≤◌, true,
 use lib.ListN.{length-map}
 use Rattle.std.proofs.lemmas.List.Elements.{filter-append}
 use Rattle.std.proofs.lemmas.List.{append-nil, map-append, take_more, take-append-le}
-use Rattle.cover.specs.declared.words.Word.{Word as ByValue}
+use Rattle.arrayvec.specs.ArrayVec.{ArrayVec}
 use Rattle.cover.specs.Words.{word_of, words_of}
 use Rattle.machine.specs.Machine.{Word}
 use Rattle.machine.specs.Words.{each_behind}
@@ -53,7 +53,7 @@ module _ (e : ℕ) (ends earlier : List Word) (own j : ℕ) (f : Word) where
       ∙ ap (λ v. without (repeats e ends earlier v j) (each_behind (f ++ u) ws)) (sym (take-append-le own f u h))
 
   -- one end more
-  module _ (ws : List ByValue) (i : ℕ) (x : ByValue) (inside : i < length ws) (is : x ≡ get_or ws i x) where
+  module _ (ws : List (ArrayVec ℕ)) (i : ℕ) (x : ArrayVec ℕ) (inside : i < length ws) (is : x ≡ get_or ws i x) where
     -- what is new with the first i + 1 ends is what is new with the first i, and with the next
     fresh_more : fresh_behind e ends earlier own j f (take (i + 1) (words_of ws)) ≡ fresh_behind e ends earlier own j f (take i (words_of ws)) ++ fresh_behind e ends earlier own j f (word_of x ∷ [])
     fresh_more =

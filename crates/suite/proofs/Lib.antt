@@ -4,7 +4,6 @@ pub mod Different
 pub mod Equivalents
 pub mod Ends
 pub mod Feeding
-pub mod Held
 mod Levels
 pub mod Members
 pub mod Once

@@ -1,7 +1,6 @@
 -- From the cover of a minimal machine to its tests, and to the answer of the call that writes them. Assumes nothing.
-use Rattle.std.proofs.Common.{◌≡◌, ℕ, ◌+◌, ◌<◌, ◌≤◌, leb, List, [], ◌∷◌, length, take, drop, Ok, Err, Result, refl, sym, ap, ◌∙◌, inr, arith, length-take}
+use Rattle.std.proofs.Common.{◌≡◌, ℕ, ◌+◌, ◌<◌, ◌≤◌, leb, List, [], ◌∷◌, length, drop, Ok, Err, Result, refl, sym, ap, ◌∙◌, inr, arith}
 use Rattle.std.proofs.ByRecursion.{All-weaker}
-use Rattle.std.proofs.lemmas.List.{length-map}
 use Rattle.std.proofs.lemmas.Bool.{cond_both}
 use Rattle.machine.specs.declared.refusals.Refusal.{Refusal}
 use Rattle.machine.specs.declared.view.Machine.{Machine as View}
@@ -11,12 +10,12 @@ use Rattle.machine.specs.Row.{keys_in, machine_in}
 use Rattle.machine.specs.Run.{model, keys_of}
 use Rattle.machine.specs.Words.{once, listed}
 use Rattle.machine.proofs.Rows.{proper_in}
-use Rattle.machine.proofs.Views.{view_accepted, view_proper, view_states}
+use Rattle.machine.proofs.Views.{view_accepted, view_proper, view_states, few_states}
 use Rattle.minimal.proofs.Moore.{short_separation}
 use Rattle.cover.specs.Cover.{access_words, separating_words, telling_words}
 use Rattle.cover.specs.Covered.{access_of, separating_of}
-use Rattle.cover.specs.Words.{word_of}
 use Rattle.cover.specs.declared.cover.Cover.{Cover}
+use Rattle.cover.proofs.Collected.{few_separating}
 use Rattle.cover.proofs.Access.{length_access, access_words_fewer, access_words_reach}
 use Rattle.cover.proofs.Separating.{separating_separates}
 use Rattle.suite.specs.Answer.{Testable, Follows, TestsAnswered, made}
@@ -50,12 +49,6 @@ view_makes v e minimal few_extra =
       different = different_separating k m;
     }
 
--- there are at most 120 separating words in a cover
-separating_low : (c : Cover) → length (separating_of c) ≤ 120
-separating_low c =
-    let room = c.room in
-    omega (arith, length-map (take c.count c.separating) word_of, length-take c.count c.separating)
-
 -- the cover of a minimal machine, with its number of keys and at most three extra states
 module _ (v : View) (e keys : ℕ) (c : Cover) (same : keys ≡ keys_of v) (access : access_of c ≡ access_words (keys_of v) (model v))
     (separating : separating_of c ≡ separating_words (keys_of v) (model v)) (minimal : Minimal (keys_of v) (model v)) (few_extra : e ≤ 3) where
@@ -76,7 +69,7 @@ module _ (v : View) (e keys : ℕ) (c : Cover) (same : keys ≡ keys_of v) (acce
   cover_low =
       let makes = cover_makes in
       rw (← cover_made, ← suite_kept keys e (access_of c) (separating_of c) makes.reach_keys makes.end_keys makes.different)
-      (tests_low keys e (access_of c) (separating_of c) makes.few_keys makes.few_extra makes.few (separating_low c))
+      (tests_low keys e (access_of c) (separating_of c) makes.few_keys makes.few_extra makes.few (rw separating (few_separating (keys_of v) (model v) (few_states v))))
 
 -- what follows from passing the tests
 pub tests_follow : (k e : ℕ) (m : Machine) → Proper k m → Minimal k m → Follows k e m (tests k e m)

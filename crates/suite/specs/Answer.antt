@@ -24,8 +24,8 @@ pub data Untestable (row : List ℕ) (e : ℕ) (r : Reason) : Type 0 where
 
 -- what was found is the machine in the row, with that many extra states
 pub record Specifies (row : List ℕ) (e : ℕ) (s : Specification) : Type 0 where
-  pub machine : model s.machine ≡ machine_in row
-  pub keys : keys_of s.machine ≡ keys_in row
+  pub machine : model s.machine.machine ≡ machine_in row
+  pub keys : keys_of s.machine.machine ≡ keys_in row
   pub extra : s.extra ≡ e
 
 -- whether there are tests

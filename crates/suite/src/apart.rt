@@ -5,14 +5,14 @@ ghost use Rattle.cover.specs.Words.{word_of, words_of};
 ghost use Rattle.suite.specs.Enumeration.{ends_marked, longer};
 ghost use Rattle.suite.specs.Kept.{begins, ends, parts};
 
-use crate::values::{Candidate, Marks, keys_of};
+use crate::values::{Candidate, Marks};
 use cover::Word;
 
 // Whether the word begins with `front`.
 pub(crate) fn begins(front: &Word, word: &[u64]) -> bool
     ensures { result ≡ begins (word_of front.now) word.now }
 {
-    word.starts_with(keys_of(front))
+    word.starts_with(front.as_slice())
 }
 
 // Whether one of some words is longer than `front` and begins with it.
@@ -25,7 +25,7 @@ pub(crate) fn some_longer(words: &[Word], front: &[u64]) -> bool
 fn is_longer(word: &Word, front: &[u64]) -> bool
     ensures { result ≡ longer front.now (word_of word.now) }
 {
-    let word = keys_of(word);
+    let word = word.as_slice();
     word.len() > front.len() && word.starts_with(front)
 }
 
@@ -33,7 +33,7 @@ fn is_longer(word: &Word, front: &[u64]) -> bool
 fn ends(least: usize, n: usize, end: &Word, word: &[u64]) -> bool
     ensures { result ≡ ends least n (word_of end.now) word.now }
 {
-    let end = keys_of(end);
+    let end = end.as_slice();
     let Some(before) = word.len().checked_sub(end.len()) else {
         return false;
     };
@@ -57,14 +57,14 @@ pub(crate) fn some_parts(n: usize, fronts: &[Word], words: &[Word], word: &[u64]
 fn parts(n: usize, front: &Word, words: &[Word], word: &[u64]) -> bool
     ensures { result ≡ parts n (words_of words.now) (word_of front.now) word.now }
 {
-    begins(front, word) && some_end(front.len, n, words, word)
+    begins(front, word) && some_end(front.len(), n, words, word)
 }
 
 // Whether the test ends with `end`, at a marked place.
 fn ends_marked(marks: &Marks, end: &Word, test: &Candidate) -> bool
     ensures { result ≡ ends_marked marks.now test.now.items (word_of end.now) }
 {
-    let end = keys_of(end);
+    let end = end.as_slice();
     let Some(before) = test.len().checked_sub(end.len()) else {
         return false;
     };

@@ -11,7 +11,7 @@ ghost use Rattle.suite.specs.Kept.{some_parts, kept_behind};
 use crate::apart::{some_end_marked, some_longer, some_parts};
 use crate::factors::Factors;
 use crate::sink::Sink;
-use crate::values::{Against, Candidate, Marks, keys_of};
+use crate::values::{Against, Candidate, Marks};
 use cover::Word;
 
 impl Against<'_> {
@@ -35,7 +35,7 @@ impl Against<'_> {
         let marks = self.marks_behind(test.as_slice());
         let longer = some_longer(self.earlier, test.as_slice());
         for end in self.ends {
-            test.try_extend_from_slice(keys_of(end)).unwrap();
+            test.try_extend_from_slice(end.as_slice()).unwrap();
             if !self.repeated(&marks, longer, test) {
                 sink.put(test.as_slice());
             }
@@ -67,7 +67,7 @@ impl Factors {
     fn each_behind<S: Sink>(&self, earlier: &[Word], own: &Word, sink: &mut S)
         ensures { Fed S.step (kept_behind self.now.keys self.now.extra (ends_in self.now) (words_of earlier.now) (word_of own.now) (suc self.now.extra)) sink.old sink.new }
     {
-        let own = keys_of(own);
+        let own = own.as_slice();
         let mut test = Candidate::new();
         test.try_extend_from_slice(own).unwrap();
         for between in 0..self.extra + 1 {

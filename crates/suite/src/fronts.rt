@@ -1,13 +1,6 @@
-// Up to 144 words by value, which the tests begin with.
-ghost use Rattle.std.specs.Prelude.{◌≡◌, ◌≤◌, length};
-
+// The words that the tests begin with.
+use arrayvec::ArrayVec;
 use cover::Word;
 
-// The first `count` of `words`.
-#[derive(Clone, Copy)]
-pub struct Fronts {
-    pub count: usize,
-    pub words: [Word; 144],
-    ghost short: { count ≤ 144 },
-    ghost long: { length words ≡ 144 },
-}
+// Sixteen words that reach, and each of them with each of eight keys behind.
+pub type Fronts = ArrayVec<Word, 144>;

@@ -12,13 +12,13 @@ use cover::{Cover, Word};
 
 impl Factors {
     pub(crate) fn of(specification: Specification) -> Factors
-        ensures made { made_of result ≡ tests (keys_of specification.entry.machine) specification.entry.extra (model specification.entry.machine) }
-        ensures few { length (tests (keys_of specification.entry.machine) specification.entry.extra (model specification.entry.machine)) ≤ 10108800 }
+        ensures made { made_of result ≡ tests (keys_of specification.entry.machine.machine) specification.entry.extra (model specification.entry.machine.machine) }
+        ensures few { length (tests (keys_of specification.entry.machine.machine) specification.entry.extra (model specification.entry.machine.machine)) ≤ 10108800 }
     {
         let cover = Cover::of(specification.machine);
-        let keys = specification.machine.keys() as u64;
+        let keys = specification.machine.machine.keys() as u64;
         Factors {
-            fronts: with_key(&cover.access[..cover.states], keys),
+            fronts: with_key(&cover.access, keys),
             cover,
             keys,
             extra: specification.extra,
@@ -28,12 +28,12 @@ impl Factors {
     pub(crate) fn fronts(&self) -> &[Word]
         ensures { words_of result.now ≡ fronts_in self.now }
     {
-        &self.fronts.words[..self.fronts.count]
+        &self.fronts
     }
 
     pub(crate) fn ends(&self) -> &[Word]
         ensures { words_of result.now ≡ ends_in self.now }
     {
-        &self.cover.separating[..self.cover.count]
+        &self.cover.separating
     }
 }

@@ -24,7 +24,7 @@ impl Against<'_> {
         mark(&mut marks, self.own, self.between);
         for word in self.earlier {
             if begins(word, front) {
-                mark(&mut marks, word.len, self.extra + 1);
+                mark(&mut marks, word.len(), self.extra + 1);
             }
         }
         marks

@@ -1,6 +1,5 @@
 // What the enumeration holds by value.
-ghost use Rattle.std.specs.Prelude.{◌≡◌, ◌+◌, ◌≤◌, length};
-ghost use Rattle.cover.specs.Words.{word_of};
+ghost use Rattle.std.specs.Prelude.{◌+◌, ◌≤◌};
 
 use arrayvec::ArrayVec;
 use cover::Word;
@@ -22,12 +21,4 @@ pub struct Against<'a> {
     pub extra: usize,
     ghost room: { own + between ≤ 19 },
     ghost few_extra: { extra ≤ 3 },
-}
-
-// The keys of a word.
-pub(crate) fn keys_of(word: &Word) -> &[u64]
-    ensures value { result.now ≡ word_of word.now }
-    ensures fits { length result.now ≤ 16 }
-{
-    &word.keys[..word.len]
 }

@@ -10,15 +10,13 @@ use crate::rows::write_suite;
 use crate::sink::Sink;
 use crate::specification::Specification;
 use machine::{Machine, Refusal};
+use minimal::MinimalMachine;
 
 // The minimal machine in a row with so many extra states, or why there are no tests for it.
 pub fn prepare(row: &[u64], extra: u64) -> Result<Specification<'_>, Refusal>
     ensures { Prepared row.now extra result }
 {
-    let machine = Machine::over(row, machine::read(row)?);
-    if let Some(state) = minimal::redundant(machine) {
-        return Err(Refusal::NotMinimal(state as u64));
-    }
+    let machine = MinimalMachine::check(Machine::read(row)?)?;
     if extra > 3 {
         return Err(Refusal::TooManyExtra(extra));
     }
@@ -31,8 +29,8 @@ pub fn prepare(row: &[u64], extra: u64) -> Result<Specification<'_>, Refusal>
 impl Specification<'_> {
     // Hands every test to a sink: each once, in order.
     pub fn each_test<S: Sink>(self, sink: &mut S)
-        ensures fed { Fed S.step (tests (keys_of self.entry.machine) self.entry.extra (model self.entry.machine)) sink.old sink.new }
-        ensures few { length (tests (keys_of self.entry.machine) self.entry.extra (model self.entry.machine)) ≤ 10108800 }
+        ensures fed { Fed S.step (tests (keys_of self.entry.machine.machine) self.entry.extra (model self.entry.machine.machine)) sink.old sink.new }
+        ensures few { length (tests (keys_of self.entry.machine.machine) self.entry.extra (model self.entry.machine.machine)) ≤ 10108800 }
     {
         Factors::of(self).each_test(sink);
     }

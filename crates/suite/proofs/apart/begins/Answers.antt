@@ -5,4 +5,4 @@ use Rattle.suite.proofs.apart.begins.Goals as goal
 
 pub returns : goal.returns
 unfolding begins
-returns c = grind (arith, same_is, c.starts_with.ensures.value, c.keys_of.ensures)
+returns c = grind (arith, same_is, c.starts_with.ensures.value, c.as_slice.ensures)

@@ -10,7 +10,7 @@ returns-in_default c = grind (arith, nat_tests, c.in_default.ensures)
 
 pub returns-then-before-least-2 : goal.returns-then-before-least-2
 unfolding ends
-returns-then-before-least-2 c = grind (arith, nat_tests, same_is, c.ends_with.ensures.value, c.in-Some.ensures, c.keys_of-end.ensures)
+returns-then-before-least-2 c = grind (arith, nat_tests, same_is, c.ends_with.ensures.value, c.in-Some.ensures, c.as_slice-end.ensures)
 
 pub returns-else-before-least-2 : goal.returns-else-before-least-2
 unfolding ends

@@ -10,7 +10,7 @@ returns-in_default c = grind (arith, nat_tests, c.in_default.ensures)
 
 pub returns-then-marks-before : goal.returns-then-marks-before
 unfolding ends_marked
-returns-then-marks-before c = grind (arith, nat_tests, same_is, c.ends_with.ensures.value, c.in-Some.ensures, c.keys_of-end.ensures)
+returns-then-marks-before c = grind (arith, nat_tests, same_is, c.ends_with.ensures.value, c.in-Some.ensures, c.as_slice-end.ensures)
 
 pub returns-else-marks-before : goal.returns-else-marks-before
 unfolding ends_marked

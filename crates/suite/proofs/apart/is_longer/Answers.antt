@@ -7,8 +7,8 @@ use Rattle.suite.proofs.apart.is_longer.Goals as goal
 
 pub returns-then-word-front : goal.returns-then-word-front
 unfolding longer begins
-returns-then-word-front c = grind (arith, nat_tests, same_is, c.starts_with.ensures.value, c.keys_of-word.ensures)
+returns-then-word-front c = grind (arith, nat_tests, same_is, c.starts_with.ensures.value, c.as_slice-word.ensures)
 
 pub returns-else-word-front : goal.returns-else-word-front
 unfolding longer
-returns-else-word-front c = grind (arith, nat_tests, c.keys_of-word.ensures)
+returns-else-word-front c = grind (arith, nat_tests, c.as_slice-word.ensures)

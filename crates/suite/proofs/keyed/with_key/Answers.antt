@@ -1,19 +1,17 @@
-use Rattle.std.proofs.Common.{◌≡◌, ◌++◌, length, take, sym, ap, ◌∙◌, zero-mul, arith}
-use Rattle.std.proofs.lemmas.List.{append-nil}
-use Rattle.cover.specs.Words.{words_of}
+use Rattle.std.proofs.Common.{◌≡◌, ◌<◌, ◌++◌, ◌∷◌, [], length, take, sym, ap, ◌∙◌, zero-mul, arith}
+use Rattle.std.proofs.lemmas.List.{append-nil, map-append}
+use Rattle.cover.specs.Words.{word_of, words_of}
 use Rattle.machine.specs.Words.{products, single_keys}
 use Rattle.suite.specs.Fronts.{fronts_of}
 use Rattle.suite.proofs.WithKey.{plain_more, key_behind, short_word, word_done, all_done, plain_done, place_low, place_next}
 use Rattle.suite.proofs.keyed.with_key.Goals as goal
 
-pub plain-init : goal.plain-init
-plain-init c = (ap (λ n. words_of (take n c.nothing-fronts.result.words)) c.nothing-fronts.ensures, c.nothing-fronts.ensures)
-
 pub plain-preserved : goal.plain-preserved
-plain-preserved c = (
-  plain_more c.args.access.now c.plain.word-index c.word-item.result c.plain-test.true c.word-item.is (fronts_of c.plain.fronts) (fronts_of c.push.new.fronts) c.plain.invariant.0 c.push.ensures.0,
-  let n = c.plain.invariant.1 in let m = c.push.ensures.1 in omega arith,
-)
+plain-preserved c =
+    let pushed = ap words_of c.push.ensures.items ∙ map-append word_of c.plain.fronts.items (c.copied.result ∷ []) ∙ ap (λ w. fronts_of c.plain.fronts ++ w ∷ []) c.copied.ensures in (
+      plain_more c.args.access.now c.plain.word-index c.word-item.result c.plain-test.true c.word-item.is (fronts_of c.plain.fronts) (fronts_of c.push.new.self) c.plain.invariant.0 pushed,
+      let n = c.plain.invariant.1 in let m = c.push.ensures.len in omega arith,
+    )
 
 pub keyed-init : goal.keyed-init
 keyed-init c = (
@@ -24,21 +22,23 @@ keyed-init c = (
 pub loop-key-init : goal.loop-key-init
 loop-key-init c = (c.keyed.invariant.0 ∙ sym (append-nil _), let n = c.keyed.invariant.1 in omega arith)
 
-pub longer-requires : goal.longer-requires
-longer-requires c = short_word c.args.access.now c.keyed.word-index c.word-item-in-keyed.result c.keyed-test.true c.word-item-in-keyed.is c.requires.1.1
+pub followed-requires : goal.followed-requires
+followed-requires c = short_word c.args.access.now c.keyed.word-index c.word-item-in-keyed.result c.keyed-test.true c.word-item-in-keyed.is c.requires.1.1
+
+pub loop-key-preserved : goal.loop-key-preserved
+loop-key-preserved c =
+    let ws = c.args.access.now in
+    let pushed = ap words_of c.push-in-loop-key.ensures.items ∙ map-append word_of c.loop-key.fronts.items (c.followed.result ∷ []) in (
+      key_behind ws c.keyed.word-index c.word-item-in-keyed.result c.keyed-test.true c.word-item-in-keyed.is (words_of ws ++ products (take c.keyed.word-index (words_of ws)) (single_keys c.args.keys)) c.loop-key.key
+          (fronts_of c.loop-key.fronts) (fronts_of c.push-in-loop-key.new.self) _ c.loop-key.invariant.0 pushed c.followed.ensures,
+      let n = c.loop-key.invariant.1 in let m = c.push-in-loop-key.ensures.len in omega arith,
+    )
 
 pub push-requires-in-loop-key : goal.push-requires-in-loop-key
 push-requires-in-loop-key c =
     let n = c.loop-key.invariant.1 in
-    omega (arith, place_low (length c.args.access.now) c.keyed.word-index c.args.keys c.loop-key.key c.requires.0 c.requires.1.0 c.keyed-test.true c.loop-key-test.true)
-
-pub loop-key-preserved : goal.loop-key-preserved
-loop-key-preserved c =
-    let ws = c.args.access.now in (
-      key_behind ws c.keyed.word-index c.word-item-in-keyed.result c.keyed-test.true c.word-item-in-keyed.is (words_of ws ++ products (take c.keyed.word-index (words_of ws)) (single_keys c.args.keys)) c.loop-key.key
-          (fronts_of c.loop-key.fronts) (fronts_of c.push-in-loop-key.new.fronts) _ c.loop-key.invariant.0 c.push-in-loop-key.ensures.0 c.longer.ensures,
-      let n = c.loop-key.invariant.1 in let m = c.push-in-loop-key.ensures.1 in omega arith,
-    )
+    let low : length c.loop-key.fronts.items < 144 = omega (arith, place_low (length c.args.access.now) c.keyed.word-index c.args.keys c.loop-key.key c.requires.0 c.requires.1.0 c.keyed-test.true c.loop-key-test.true) in
+    (omega arith, low)
 
 pub keyed-preserved : goal.keyed-preserved
 keyed-preserved c =

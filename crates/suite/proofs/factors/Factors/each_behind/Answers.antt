@@ -12,7 +12,7 @@ pub loop-between-init : goal.loop-between-init
 unfolding kept_behind
 loop-between-init g c = record {
   fed = fed_none g.S.Sink.step c.args.sink.now;
-  stays = rw c.unwrap.ensures at c.try_extend_from_slice.ensures.ok ∙ ap (λ z. z ++ c.keys_of-own.result.now) c.new-test.ensures;
+  stays = rw c.unwrap.ensures at c.try_extend_from_slice.ensures.ok ∙ ap (λ z. z ++ c.as_slice-own.result.now) c.new-test.ensures;
 }
 
 pub loop-between-preserved : goal.loop-between-preserved
@@ -20,7 +20,7 @@ loop-between-preserved g c =
     let k = c.args.self.now.keys in
     let e = c.args.self.now.extra in
     let earlier = words_of c.args.earlier.now in
-    let v = c.keys_of-own.result.now in
+    let v = c.as_slice-own.result.now in
     let f = c.loop-between.test.items in
     let j = c.loop-between.between in
     let more = between_more k e (ends_in c.args.self.now) earlier v f (length v) j c.loop-between.invariant.stays refl in
@@ -36,4 +36,4 @@ returns g c =
     let own = word_of c.args.own.now in
     let kept = kept_behind c.args.self.now.keys c.args.self.now.extra (ends_in c.args.self.now) (words_of c.args.earlier.now) in
     let all : c.loop-between.between ≡ suc c.args.self.now.extra = let a = c.loop-between-test.false in let b = c.loop-between.auto.between-end in omega arith in
-    fed_same g.S.Sink.step _ _ c.args.sink.now c.loop-between.sink (ap (λ v. kept v c.loop-between.between) c.keys_of-own.ensures.value ∙ ap (kept own) all) c.loop-between.invariant.fed
+    fed_same g.S.Sink.step _ _ c.args.sink.now c.loop-between.sink (ap (λ v. kept v c.loop-between.between) c.as_slice-own.ensures.value ∙ ap (kept own) all) c.loop-between.invariant.fed
