@@ -1,6 +1,7 @@
 // Taking a word apart: whether it begins with one word and ends with another.
 ghost use Rattle.std.specs.List.{list_any};
-ghost use Rattle.std.specs.Prelude.{◌≡◌};
+ghost use Rattle.std.specs.Prelude.{◌≡◌, nat_eq};
+ghost use Rattle.std.specs.Cmp.Lexicographic.{pointwise};
 ghost use Rattle.cover.specs.Words.{word_of, words_of};
 ghost use Rattle.suite.specs.Enumeration.{ends_marked, longer};
 ghost use Rattle.suite.specs.Kept.{begins, ends, parts};
@@ -8,11 +9,19 @@ ghost use Rattle.suite.specs.Kept.{begins, ends, parts};
 use crate::values::{Candidate, Marks};
 use cover::Word;
 
+// Whether two words have the same keys: one by one, which for words of few keys takes less time than the library's `==`, `starts_with` and `ends_with`.
+fn same_keys(a: &[u64], b: &[u64]) -> bool
+    ensures { result ≡ pointwise nat_eq a.now b.now }
+{
+    a.iter().eq(b)
+}
+
 // Whether the word begins with `front`.
 pub(crate) fn begins(front: &Word, word: &[u64]) -> bool
     ensures { result ≡ begins (word_of front.now) word.now }
 {
-    word.starts_with(front.as_slice())
+    let front = front.as_slice();
+    word.len() >= front.len() && same_keys(front, &word[..front.len()])
 }
 
 // Whether one of some words is longer than `front` and begins with it.
@@ -26,7 +35,7 @@ fn is_longer(word: &Word, front: &[u64]) -> bool
     ensures { result ≡ longer front.now (word_of word.now) }
 {
     let word = word.as_slice();
-    word.len() > front.len() && word.starts_with(front)
+    word.len() > front.len() && same_keys(front, &word[..front.len()])
 }
 
 // Whether the word ends with `end`, with at least `least` keys before it and fewer than `least + n`.
@@ -37,7 +46,7 @@ fn ends(least: usize, n: usize, end: &Word, word: &[u64]) -> bool
     let Some(before) = word.len().checked_sub(end.len()) else {
         return false;
     };
-    before >= least && before - least < n && word.ends_with(end)
+    before >= least && before - least < n && same_keys(end, &word[before..])
 }
 
 // Whether the word ends so with one of some words.
@@ -68,7 +77,7 @@ fn ends_marked(marks: &Marks, end: &Word, test: &Candidate) -> bool
     let Some(before) = test.len().checked_sub(end.len()) else {
         return false;
     };
-    marks[before] && test.ends_with(end)
+    marks[before] && same_keys(end, &test[before..])
 }
 
 // Whether the test ends with one of some words, at a marked place.

@@ -1,8 +1,11 @@
 use Rattle.std.proofs.Common.{arith}
 use Rattle.suite.specs.Kept.{begins}
-use Rattle.suite.proofs.Places.{same_is}
+use Rattle.suite.proofs.Places.{same_is, begins_short}
 use Rattle.suite.proofs.apart.begins.Goals as goal
 
-pub returns : goal.returns
+pub returns-then-word-front : goal.returns-then-word-front
 unfolding begins
-returns c = grind (arith, same_is, c.starts_with.ensures.value, c.as_slice.ensures)
+returns-then-word-front c = grind (arith, same_is, c.same_keys.ensures, c.as_slice-front.ensures.value)
+
+pub returns-else-word-front : goal.returns-else-word-front
+returns-else-word-front c = grind (arith, begins_short, c.as_slice-front.ensures.value)

@@ -7,7 +7,7 @@ use Rattle.suite.proofs.apart.is_longer.Goals as goal
 
 pub returns-then-word-front : goal.returns-then-word-front
 unfolding longer begins
-returns-then-word-front c = grind (arith, nat_tests, same_is, c.starts_with.ensures.value, c.as_slice-word.ensures)
+returns-then-word-front c = grind (arith, nat_tests, same_is, c.same_keys.ensures, c.as_slice-word.ensures)
 
 pub returns-else-word-front : goal.returns-else-word-front
 unfolding longer
