@@ -66,7 +66,7 @@ pub fn judge<'a>(row: &'a [u64], extra: u64, shown: &'a [u64]) -> Result<Verdict
 {
     let specification = suite::prepare(row, extra)?;
     let mut progress = Progress {
-        machine: specification.machine(),
+        machine: specification.machine.machine,
         rest: shown,
         tests: 0,
         cut: None,
