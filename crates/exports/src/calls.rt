@@ -5,33 +5,33 @@ ghost use Rattle.survivor.specs.Answer.{SurvivorWritten};
 ghost use Rattle.verdict.specs.Judging.{Judgement};
 ghost use Rattle.exports.specs.Outcomes.{Told, ToldJudged};
 
-use crate::outcomes::{Outcome, numbers_of};
-use crate::verdicts::{Judged, verdict_numbers};
+use crate::outcomes::Outcome;
+use crate::verdicts::Judged;
 
 #[unsafe(no_mangle)]
 pub extern "C" fn jackspear_minimize(row: &[u64], out: &mut [u64]) -> Outcome
     ensures { Told (λ a. Minimized row.now out.old a out.new) result }
 {
-    numbers_of(minimal::minimize(row, out))
+    minimal::minimize(row, out).into()
 }
 
 #[unsafe(no_mangle)]
 pub extern "C" fn jackspear_write_tests(row: &[u64], extra: u64, out: &mut [u64]) -> Outcome
     ensures { Told (λ a. TestsAnswered row.now extra out.old a out.new) result }
 {
-    numbers_of(suite::write_tests(row, extra, out))
+    suite::write_tests(row, extra, out).into()
 }
 
 #[unsafe(no_mangle)]
 pub extern "C" fn jackspear_survivor(row: &[u64], longest: u64, out: &mut [u64]) -> Outcome
     ensures { Told (λ a. SurvivorWritten row.now longest out.old a out.new) result }
 {
-    numbers_of(survivor::survivor(row, longest, out))
+    survivor::survivor(row, longest, out).into()
 }
 
 #[unsafe(no_mangle)]
 pub extern "C" fn jackspear_judge(row: &[u64], extra: u64, shown: &[u64]) -> Judged
     ensures { ToldJudged (Judgement row.now extra shown.now) result }
 {
-    verdict_numbers(verdict::judge(row, extra, shown))
+    verdict::judge(row, extra, shown).into()
 }

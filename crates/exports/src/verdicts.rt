@@ -6,8 +6,9 @@ use machine::Refusal;
 use verdict::Verdict;
 
 // A refusal's number and place; or 0 and 0, and then whether the board failed, and of a failure the test, the key, and what was and should have been shown.
+// Numbers in place of an enum: the C interface has no such type.
 #[repr(C)]
-#[derive(Clone, Copy)]
+#[derive(Clone, Copy, Default)]
 pub struct Judged {
     pub refusal: u64,
     pub place: u64,
@@ -18,40 +19,32 @@ pub struct Judged {
     pub expected: u64,
 }
 
-const PASSED: Judged = Judged {
-    refusal: 0,
-    place: 0,
-    failed: 0,
-    test: 0,
-    key: 0,
-    shown: 0,
-    expected: 0,
-};
+impl From<Result<Verdict, Refusal>> for Judged {
+    ghost from_gives = { λ answer judged. judged ≡ judged_of answer };
 
-pub fn verdict_numbers(answer: Result<Verdict, Refusal>) -> Judged
-    ensures { result ≡ judged_of answer }
-{
-    match answer {
-        Ok(Verdict::Passed) => PASSED,
-        Ok(
-            Verdict::Failed {
+    fn from(answer: Result<Verdict, Refusal>) -> Judged {
+        match answer {
+            Ok(Verdict::Passed) => Judged::default(),
+            Ok(
+                Verdict::Failed {
+                    test,
+                    key,
+                    shown,
+                    expected,
+                },
+            ) => Judged {
+                failed: 1,
                 test,
                 key,
                 shown,
                 expected,
+                ..Judged::default()
             },
-        ) => Judged {
-            failed: 1,
-            test,
-            key,
-            shown,
-            expected,
-            ..PASSED
-        },
-        Err(why) => Judged {
-            refusal: why.number(),
-            place: why.place(),
-            ..PASSED
-        },
+            Err(why) => Judged {
+                refusal: why.number(),
+                place: why.place(),
+                ..Judged::default()
+            },
+        }
     }
 }
