@@ -1,108 +1,148 @@
-// Machines in rows, made by chance.
+// Machines made by chance: specifications, and boards that are to be as they are.
+ghost use Rattle.std.specs.Prelude.{◌≡◌, ◌+◌, ◌<◌, ◌≤◌, OnOk, vec_len};
+
 use crate::random::Random;
 use std::alloc::{AllocError, Global};
 
-// The number at a place of a row; 0 behind its end.
-pub fn at(row: &[u64], place: u64) -> u64 {
-    row.get(place as usize).copied().unwrap_or(0)
+// Where a key leads, and what it shows.
+#[derive(Clone, Copy)]
+pub struct Move {
+    pub target: usize,
+    pub output: u64,
 }
 
-// Where the move of a state and a key stands in a row.
-pub fn move_place(row: &[u64], state: u64, key: u64) -> u64 {
-    state
-        .wrapping_mul(at(row, 1))
-        .wrapping_add(key)
-        .wrapping_mul(2)
-        .wrapping_add(2)
+// A machine of at most five states and three keys: for each state a move for each key; state 0 is the beginning.
+#[derive(Drop)]
+pub struct Board {
+    keys: usize,
+    states: Vec<Vec<Move>>,
+    ghost few_keys: { (0 < keys) × (keys ≤ 3) },
+    ghost few_states: { (0 < vec_len states) × (vec_len states ≤ 5) },
 }
 
-// A machine of so many states and keys, with outputs 0 and 1.
-pub fn random_machine(
+impl Clone for Board {
+    ghost is_clone = { λ board copy. vec_len copy.states ≡ vec_len board.states };
+
+    fn clone(&self) -> Result<Board, AllocError> {
+        Ok(Board {
+            keys: self.keys,
+            states: self.states.clone()?,
+        })
+    }
+}
+
+// The moves of one state: each leads to one of so many states.
+fn random_moves(
     heap: Global,
     random: &mut Random,
-    states: u64,
-    keys: u64,
-) -> Result<Vec<u64>, AllocError> {
-    let mut row = Vec::new(heap);
-    row.push(states)?;
-    row.push(keys)?;
-    for _ in 0..states.wrapping_mul(keys) {
-        row.push(random.below(states))?;
-        row.push(random.below(2))?;
+    states: usize,
+    keys: usize,
+) -> Result<Vec<Move>, AllocError>
+    requires { 0 < states }
+{
+    let mut moves = Vec::new(heap);
+    for _ in 0..keys {
+        let target = random.below(states);
+        let output = random.below(2) as u64;
+        moves.push(Move { target, output })?;
     }
-    Ok(row)
+    Ok(moves)
 }
 
-// The moves of a state once more, for a state behind the last; about half of what led to that state leads to the new one.
-fn split_state(row: &mut Vec<u64>, random: &mut Random) -> Result<(), AllocError> {
-    let states = at(row, 0);
-    let keys = at(row, 1);
-    let old = random.below(states);
-    let begin = move_place(row, old, 0);
-    for i in 0..keys.wrapping_mul(2) {
-        let number = at(row, begin.wrapping_add(i));
-        row.push(number)?;
+impl Board {
+    // A machine of so many states and keys, with outputs 0 and 1.
+    pub fn random(
+        heap: Global,
+        random: &mut Random,
+        states: usize,
+        keys: usize,
+    ) -> Result<Board, AllocError>
+        requires few_states { (0 < states) × (states ≤ 5) }
+        requires few_keys { (0 < keys) × (keys ≤ 3) }
+    {
+        let mut all = Vec::new(heap);
+        for _ in 0..states {
+            all.push(random_moves(heap, random, states, keys)?)?;
+        }
+        Ok(Board { keys, states: all })
     }
-    for j in 0..states.wrapping_add(1).wrapping_mul(keys) {
-        let place = j.wrapping_mul(2).wrapping_add(2);
-        if at(row, place) == old && random.below(2) == 0 {
-            put(row, place, states);
+
+    // A board that is to be as a machine is: a copy with changes, or, one time in five, any machine.
+    pub fn random_like(
+        heap: Global,
+        random: &mut Random,
+        machine: &Board,
+    ) -> Result<Board, AllocError> {
+        if random.one_in(5) {
+            let states = random.below(5) + 1;
+            return Board::random(heap, random, states, machine.keys);
+        }
+        let room = 5 - machine.states.len();
+        let more = random.below(room + 1);
+        let mut board = machine.clone()?;
+        for _ in 0..more {
+            board.split_state(random)?;
+        }
+        for _ in 0..random.below(3) {
+            board.change(random);
+        }
+        Ok(board)
+    }
+
+    // The moves of a state once more, for a state behind the last; about half of what led to that state leads to the new one.
+    fn split_state(&mut self, random: &mut Random) -> Result<(), AllocError>
+        requires { vec_len self.old.states < 5 }
+        ensures { OnOk result (vec_len self.new.states ≡ vec_len self.old.states + 1) }
+    {
+        let added = self.states.len();
+        let old = random.below(added);
+        let moves = self.states[old].clone()?;
+        self.states.push(moves)?;
+        for moves in self.states.iter_mut() {
+            for step in moves.iter_mut() {
+                if step.target == old && random.one_in(2) {
+                    step.target = added;
+                }
+            }
+        }
+        Ok(())
+    }
+
+    // One move leads elsewhere, or shows the other output.
+    fn change(&mut self, random: &mut Random) {
+        let states = self.states.len();
+        let number = random.below(states * self.keys);
+        let Some(step) = self.states[number / self.keys].get_mut(number % self.keys) else {
+            return;
+        };
+        if random.one_in(2) {
+            step.target = random.below(states);
+        } else {
+            step.output ^= 1;
         }
     }
-    put(row, 0, states.wrapping_add(1));
-    Ok(())
-}
 
-fn put(row: &mut Vec<u64>, place: u64, number: u64) {
-    if let Some(entry) = row.get_mut(place as usize) {
-        *entry = number;
+    pub fn states(&self) -> usize
+        ensures { result ≡ vec_len self.now.states }
+    {
+        self.states.len()
     }
-}
 
-// One move leads elsewhere, or shows the other output.
-fn change(row: &mut Vec<u64>, random: &mut Random) {
-    let states = at(row, 0);
-    let moves = states.wrapping_mul(at(row, 1));
-    let place = random.below(moves).wrapping_mul(2).wrapping_add(2);
-    if random.below(2) == 0 {
-        put(row, place, random.below(states));
-    } else {
-        let shown = at(row, place.wrapping_add(1));
-        put(row, place.wrapping_add(1), shown ^ 1);
+    // The moves of a state, by key; none if there is no such state.
+    pub fn moves(&self, state: usize) -> &[Move] {
+        match self.states.get(state) {
+            Some(moves) => moves,
+            None => &[],
+        }
     }
-}
 
-// A copy of a machine with some states more and some moves changed.
-fn changed_copy(
-    heap: Global,
-    random: &mut Random,
-    row: &[u64],
-    more: u64,
-) -> Result<Vec<u64>, AllocError> {
-    let mut board = Vec::new(heap);
-    for number in row {
-        board.push(*number)?;
+    // The row that the libraries read the machine in.
+    pub fn row(&self, heap: Global) -> Result<Vec<u64>, AllocError> {
+        let mut row = vec![in heap; self.states.len() as u64, self.keys as u64]?;
+        for step in self.states.iter().flatten() {
+            row.push(step.target as u64)?;
+            row.push(step.output)?;
+        }
+        Ok(row)
     }
-    for _ in 0..more {
-        split_state(&mut board, random)?;
-    }
-    for _ in 0..random.below(3) {
-        change(&mut board, random);
-    }
-    Ok(board)
-}
-
-// A board of at most five states: a copy with changes, or, one time in five, any machine.
-pub fn random_board(
-    heap: Global,
-    random: &mut Random,
-    row: &[u64],
-) -> Result<Vec<u64>, AllocError> {
-    if random.below(5) == 0 {
-        let states = random.below(5).wrapping_add(1);
-        return random_machine(heap, random, states, at(row, 1));
-    }
-    let room = 5u64.saturating_sub(at(row, 0));
-    let more = random.below(room.wrapping_add(1));
-    changed_copy(heap, random, row, more)
 }

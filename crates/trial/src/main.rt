@@ -2,105 +2,60 @@
 #![tactic(auto)]
 
 mod boards;
+mod comparing;
 mod deciding;
 mod random;
 mod tally;
 
-use anyhow::anyhow;
-use boards::{at, random_board, random_machine};
-use deciding::{equivalent, shown};
+use boards::Board;
+use comparing::{Comparison, Judge};
 use machine::Machine;
 use random::Random;
 use std::alloc::Global;
 use tally::Tally;
-use verdict::Verdict;
 
-// The verdict on a board.
-fn verdict_on(
-    heap: Global,
-    row: &[u64],
-    extra: u64,
-    board: &[u64],
-    room: &mut [u64],
-) -> anyhow::Result<Verdict> {
-    if suite::write_tests(row, extra, room).is_err() {
-        return Err(anyhow!("no tests"));
-    }
-    let seen = shown(heap, board, room)?;
-    match verdict::judge(row, extra, &seen) {
-        Ok(verdict) => Ok(verdict),
-        Err(_) => Err(anyhow!("no verdict")),
-    }
-}
-
-fn has_passed(verdict: Verdict) -> bool {
-    match verdict {
-        Verdict::Passed => true,
-        Verdict::Failed { .. } => false,
-    }
-}
-
-// A board with at most so many states more passes exactly if it is equivalent, and a larger one that is equivalent passes.
-fn compare(
-    heap: Global,
-    row: &[u64],
-    extra: u64,
-    board: &[u64],
-    room: &mut [u64],
-    tally: &mut Tally,
-) -> anyhow::Result<()> {
-    let verdict = verdict_on(heap, row, extra, board, room)?;
-    tally.count(verdict);
-    let passed = has_passed(verdict);
-    let same = equivalent(row, board);
-    let larger = at(board, 0) > at(row, 0).saturating_add(extra);
-    if same && !passed || passed && !same && !larger {
-        tally.disagreements = tally.disagreements.wrapping_add(1);
-    }
-    if larger && passed && !has_passed(verdict_on(heap, row, extra.wrapping_add(1), board, room)?) {
-        tally.later = tally.later.wrapping_add(1);
-    }
-    Ok(())
-}
-
-// A machine is minimal.
-fn is_minimal(row: &[u64]) -> bool {
-    match machine::read(row) {
-        Ok(shape) => minimal::redundant(Machine::over(row, shape)).is_none(),
+// Whether a machine is minimal.
+fn is_minimal(heap: Global, machine: &Board) -> anyhow::Result<bool> {
+    let row = machine.row(heap)?;
+    Ok(match machine::read(&row) {
+        Ok(shape) => minimal::redundant(Machine::over(&row, shape)).is_none(),
         Err(_) => false,
-    }
+    })
 }
 
-// A machine made by chance, if it is minimal: some boards, each with 0, 1 and 2 extra states.
-fn try_machine(
+// Some boards for a machine, each with 0, 1 and 2 extra states.
+fn compare_boards(
     heap: Global,
     random: &mut Random,
-    room: &mut [u64],
-    tally: &mut Tally,
+    judge: &mut Judge,
+    machine: &Board,
+    comparisons: &mut Vec<Comparison>,
 ) -> anyhow::Result<()> {
-    let states = random.below(3).wrapping_add(1);
-    let keys = random.below(3).wrapping_add(1);
-    let row = random_machine(heap, random, states, keys)?;
-    if !is_minimal(&row) {
-        return Ok(());
-    }
-    tally.machines = tally.machines.wrapping_add(1);
     for _ in 0..8 {
-        let board = random_board(heap, random, &row)?;
+        let board = Board::random_like(heap, random, machine)?;
         for extra in 0..3 {
-            compare(heap, &row, extra, &board, room, tally)?;
+            comparisons.push(judge.compare(machine, extra, &board)?)?;
         }
     }
     Ok(())
 }
 
 fn main(rt: HostRuntime) -> anyhow::Result<()> {
+    let heap = rt.alloc();
     let mut random = Random::seeded(2024);
-    let mut room = vec![in rt.alloc(); 0u64; 16384]?;
-    let mut tally = Tally::new();
+    let mut judge = Judge::new(heap)?;
+    let mut machines = Vec::new(heap);
+    let mut comparisons = Vec::new(heap);
     for _ in 0..1000 {
-        try_machine(rt.alloc(), &mut random, &mut room, &mut tally)?;
+        let states = random.below(3) + 1;
+        let keys = random.below(3) + 1;
+        let machine = Board::random(heap, &mut random, states, keys)?;
+        if is_minimal(heap, &machine)? {
+            compare_boards(heap, &mut random, &mut judge, &machine, &mut comparisons)?;
+            machines.push(machine)?;
+        }
     }
-    tally.print(&rt)?;
+    let tally = Tally::of(machines.len(), &comparisons);
+    println!(rt; "{tally}")?;
     Ok(())
 }

@@ -1,70 +1,71 @@
 // What was counted.
-use std::io;
+use crate::comparing::Comparison;
+use std::fmt;
 use verdict::Verdict;
 
 #[derive(Clone, Copy)]
 pub struct Tally {
-    pub machines: u64,
-    pub pairs: u64,
-    pub passed: u64,
-    pub failed: u64,
-    pub later: u64,
-    pub disagreements: u64,
-    pub sum: u64,
+    machines: usize,
+    pairs: usize,
+    passed: usize,
+    failed: usize,
+    later: usize,
+    disagreements: usize,
+    sum: u64,
+}
+
+// A number more in a checksum below 2^32.
+fn with_number(sum: u64, number: u64) -> u64 {
+    sum.wrapping_mul(31).wrapping_add(number) & 0xffff_ffff
+}
+
+// All that a verdict says, in a checksum.
+fn with_verdict(sum: u64, verdict: Verdict) -> u64 {
+    match verdict {
+        Verdict::Passed => with_number(sum, 1),
+        Verdict::Failed {
+            test,
+            key,
+            shown,
+            expected,
+        } => [test, key, shown, expected]
+            .into_iter()
+            .fold(sum, with_number),
+    }
 }
 
 impl Tally {
-    pub fn new() -> Tally {
+    // Of so many machines, and of what came of comparing boards with them.
+    pub fn of(machines: usize, comparisons: &[Comparison]) -> Tally {
         Tally {
-            machines: 0,
-            pairs: 0,
-            passed: 0,
-            failed: 0,
-            later: 0,
-            disagreements: 0,
-            sum: 0,
+            machines,
+            pairs: comparisons.len(),
+            passed: comparisons.iter().filter(|c| c.passed()).count(),
+            failed: comparisons.iter().filter(|c| !c.passed()).count(),
+            later: comparisons.iter().filter(|c| c.fails_later).count(),
+            disagreements: comparisons.iter().filter(|c| !c.agrees).count(),
+            sum: comparisons
+                .iter()
+                .fold(0, |sum, c| with_verdict(sum, c.verdict)),
         }
     }
+}
 
-    fn add(&mut self, number: u64) {
-        self.sum = self.sum.wrapping_mul(31).wrapping_add(number) & 0xffff_ffff;
-    }
-
-    // One verdict more, and all that it says into the sum.
-    pub fn count(&mut self, verdict: Verdict) {
-        self.pairs = self.pairs.wrapping_add(1);
-        match verdict {
-            Verdict::Passed => {
-                self.passed = self.passed.wrapping_add(1);
-                self.add(1);
-            }
-            Verdict::Failed {
-                test,
-                key,
-                shown,
-                expected,
-            } => {
-                self.failed = self.failed.wrapping_add(1);
-                self.add(test);
-                self.add(key);
-                self.add(shown);
-                self.add(expected);
-            }
-        }
-    }
-
-    pub fn print(self, rt: &HostRuntime) -> io::Result<()> {
-        let machines = self.machines;
-        let pairs = self.pairs;
-        let passed = self.passed;
-        let failed = self.failed;
-        let later = self.later;
-        let sum = self.sum;
-        let disagreements = self.disagreements;
-        println!(rt; "{machines} minimal machines, {pairs} pairs")?;
-        println!(rt; "{passed} passed, {failed} failed")?;
-        println!(rt; "{later} passed and would fail with one extra state more")?;
-        println!(rt; "{sum} is the sum of the verdicts")?;
-        println!(rt; "{disagreements} disagreements")
+impl fmt::Display for Tally {
+    fn fmt<W: fmt::Write>(&self, f: &mut fmt::Formatter<W>) -> fmt::Result {
+        let Tally {
+            machines,
+            pairs,
+            passed,
+            failed,
+            later,
+            disagreements,
+            sum,
+        } = self;
+        writeln!(f, "{machines} minimal machines, {pairs} pairs")?;
+        writeln!(f, "{passed} passed, {failed} failed")?;
+        writeln!(f, "{later} passed and would fail with one extra state more")?;
+        writeln!(f, "{sum} is the sum of the verdicts")?;
+        write!(f, "{disagreements} disagreements")
     }
 }
