@@ -1,11 +1,32 @@
 -- Which refusal an input gets. Assumes nothing.
-use Rattle.std.proofs.Common.{◌≡◌, ℕ, ◌+◌, ◌*◌, ◌<◌, ◌≤◌, List, length, Some, None, mul-le-mul, arith}
+use Rattle.std.proofs.Common.{◌≡◌, ℕ, ◌+◌, ◌-◌, ◌*◌, ◌<◌, ◌≤◌, List, length, take, drop, get_or, Some, None, ap, ◌∙◌, add-zero, length-drop, mul-le-mul, arith}
+use Rattle.std.specs.List.{slice_range}
+use Rattle.std.proofs.lemmas.List.{take_all, get_or-drop, drop-drop}
 use Rattle.std.proofs.lemmas.Bool.{le-leb, lt-leb}
 use Rattle.machine.specs.declared.reading.Shape.{Shape}
 use Rattle.machine.specs.Reading.{Heads}
 use Rattle.machine.specs.Refusals.{Reason, reason, shape_refusal, row_refusal}
 use Rattle.machine.proofs.Rows.{shaped}
 use Rattle.formats.specs.Input.{extra_place, input_refusal}
+
+-- an element of what is left of a list from a place on, and what stands behind that element
+module _ (bytes tail : List ℕ) (place : ℕ) (is : tail ≡ slice_range bytes place (length bytes)) (some : 1 ≤ length tail) where
+  -- what is left
+  left : tail ≡ drop place bytes
+  left = is ∙ take_all _ (drop place bytes) (omega (arith, length-drop {A = ℕ}))
+
+  -- the place is inside the list
+  pub inside : place < length bytes
+  inside = omega (arith, ap length left, length-drop {A = ℕ})
+
+  -- the element is the one at the place
+  pub element : get_or tail 0 0 ≡ get_or bytes place 0
+  element = ap (λ (l : List ℕ). get_or l 0 0) left ∙ simp add-zero at (get_or-drop place bytes 0 0)
+
+  -- what stands behind it
+  pub behind : take (length tail - 1) (drop 1 tail) ≡ drop (place + 1) bytes
+  behind =
+      take_all _ (drop 1 tail) (omega (arith, length-drop {A = ℕ})) ∙ ap (drop 1) left ∙ drop-drop 1 place bytes
 
 module _ (bytes row : List ℕ) where
   -- if the shape of the machine is refused, so is the input, for the same reason
@@ -39,3 +60,6 @@ module _ (bytes row : List ℕ) where
     pub past_extra : 4 * (2 + 2 * (shape.states * shape.keys)) < length bytes → input_refusal bytes row ≡ row_refusal row
     unfolding input_refusal
     past_extra h = let e = place_is in rw (ok, lt-leb (length bytes) (extra_place row) (omega arith))
+
+-- what reading an input needs
+pub ruleset of_inputs = (shape_refused, few_moves, place_is, no_extra, past_extra)

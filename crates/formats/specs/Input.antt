@@ -1,6 +1,6 @@
 -- What the programs read: a machine's numbers, four bytes each, low byte first, and one byte, the number of extra states.
 -- Assumes nothing: these are definitions.
-use Rattle.std.specs.Prelude.{◌≡◌, ℕ, ◌+◌, ◌*◌, ◌/◌, ◌≤◌, List, map, length, Some, None, Ok, Err, Option, Result, nat_le, slice_index}
+use Rattle.std.specs.Prelude.{◌≡◌, ℕ, ◌+◌, ◌*◌, ◌/◌, ◌<◌, List, map, length, drop, Some, None, Ok, Err, Option, Result, nat_le, slice_index}
 use Rattle.std.specs.List.{range_with_len}
 use Rattle.machine.specs.declared.refusals.Refusal.{Refusal}
 use Rattle.machine.specs.First.{or_else}
@@ -31,5 +31,5 @@ input_refusal bytes row =
 -- how an input is read, row being its numbers
 abbrev pub InputRead : List ℕ → List ℕ → Result Input Refusal → Type 0
 InputRead bytes row (Ok input) =
-    (input_refusal bytes row ≡ None) × Heads row input.shape × (input.extra ≡ slice_index bytes (extra_place row)) × (input.rest ≡ extra_place row + 1) × (input.rest ≤ length bytes)
+    (input_refusal bytes row ≡ None) × Heads row input.shape × (input.extra ≡ slice_index bytes (extra_place row)) × (extra_place row < length bytes) × (input.rest.now ≡ drop (extra_place row + 1) bytes)
 InputRead bytes row (Err f) = input_refusal bytes row ≡ Some (reason_of f)

@@ -1,29 +1,41 @@
-// Words as text.
-ghost use Rattle.std.specs.Prelude.{◌≡◌, IfOk, string_bytes};
+// What the programs print.
+ghost use Rattle.std.specs.Prelude.{◌≡◌, Some, IfOk, string_bytes};
 ghost use Rattle.formats.specs.Text.{word_text};
 
-use machine::Refusal;
+use crate::failures::Failure;
 use std::alloc::{AllocError, Global};
-use std::io;
+use std::{fmt, io};
 
-// A digit for each key, a dash for the empty word.
+// A word as it is printed: a digit for each key, a dash for the empty word.
+#[derive(Clone, Copy)]
+pub struct WordText<'a>(pub &'a [u64]);
+
+impl fmt::Display for WordText<'_> {
+    ghost output = { λ text. Some (word_text text.0.now) };
+
+    fn fmt<W: fmt::Write>(&self, f: &mut fmt::Formatter<W>) -> fmt::Result {
+        if self.0.is_empty() {
+            return write!(f, "-");
+        }
+        for key in self.0 {
+            write!(f, "{}", *key % 10)?;
+        }
+        Ok(())
+    }
+}
+
+// A word as text.
 pub fn word_text(heap: Global, word: &[u64]) -> Result<String, AllocError>
     ensures { IfOk result (λ t. string_bytes t ≡ word_text word.now) }
 {
-    let mut text = String::new(heap);
-    if word.is_empty() {
-        text.push('-')?;
-        return Ok(text);
-    }
-    for key in word {
-        text.push((b'0' + (*key % 10) as u8) as char)?;
-    }
-    Ok(text)
+    WordText(word).to_string(heap)
 }
 
-// The line of a refusal.
-pub fn print_refusal(rt: &HostRuntime, refusal: Refusal) -> io::Result<()> {
-    let number = refusal.number();
-    let place = refusal.place();
-    println!(rt; "refused {number} at {place}")
+// An answer or a refusal as a line.
+pub fn print_answer(rt: &HostRuntime, answer: Result<String, Failure>) -> io::Result<()> {
+    match answer {
+        Ok(text) => rt.println(text),
+        Err(Failure::OutOfMemory) => Err(AllocError.into()),
+        Err(refused) => rt.println(refused),
+    }
 }

@@ -1,9 +1,8 @@
 // Judges what a board showed: bytes in, a line out.
 #![tactic(auto)]
 
-use anyhow::anyhow;
-use machine::Refusal;
-use std::io;
+use formats::{Failure, WordText};
+use std::alloc::{AllocError, Global};
 use std::io::Read;
 use verdict::Verdict;
 
@@ -13,13 +12,13 @@ fn verdict_on(
     extra: u64,
     shown: &mut Vec<u64>,
     left_over: bool,
-) -> anyhow::Result<Result<Verdict, Refusal>> {
-    let verdict = verdict::judge(row, extra, &*shown);
-    if !left_over || verdict.is_err() {
+) -> Result<Verdict, Failure> {
+    let verdict = verdict::judge(row, extra, &*shown)?;
+    if !left_over {
         return Ok(verdict);
     }
-    shown.push(0)?;
-    Ok(verdict::judge(row, extra, &*shown))
+    shown.push(0).map_err(AllocError::from)?;
+    Ok(verdict::judge(row, extra, &*shown)?)
 }
 
 // The keys of the test of that number.
@@ -32,39 +31,42 @@ fn test_numbered(tests: &[u64], number: u64) -> &[u64] {
     suite::test_at(tests, place)
 }
 
-fn print_failure(rt: &HostRuntime, row: &[u64], extra: u64, failed: Verdict) -> anyhow::Result<()> {
-    let Verdict::Failed {
-        test,
-        key,
-        shown,
-        expected,
-    } = failed
-    else {
-        return Ok(rt.println("passed")?);
-    };
-    let Ok(tests) = formats::tests_row(rt.alloc(), row, extra)? else {
-        return Err(anyhow!("no tests"));
-    };
-    let word = formats::word_text(rt.alloc(), test_numbered(&tests, test))?;
-    println!(rt; "failed {word} at {key}: {shown} for {expected}")?;
-    Ok(())
+// A verdict in words, with the keys of the test that failed.
+fn verdict_text(
+    heap: Global,
+    row: &[u64],
+    extra: u64,
+    verdict: Verdict,
+) -> Result<String, Failure> {
+    match verdict {
+        Verdict::Passed => Ok(String::from_str(heap, "passed")?),
+        Verdict::Failed {
+            test,
+            key,
+            shown,
+            expected,
+        } => {
+            let tests = formats::tests_row(heap, row, extra)?;
+            let word = WordText(test_numbered(&tests, test));
+            Ok(format!(in heap; "failed {word} at {key}: {shown} for {expected}")?)
+        }
+    }
+}
+
+// The verdict on what a board showed, in an input behind the machine and the extra states.
+fn answer(heap: Global, bytes: &[u8]) -> Result<String, Failure> {
+    let row = formats::numbers(heap, bytes)?;
+    let input = formats::read_input(bytes, &row)?;
+    let extra = u64::from(input.extra);
+    let mut shown = formats::numbers(heap, input.rest)?;
+    let left_over = input.rest.len() % 4 != 0;
+    let verdict = verdict_on(&row, extra, &mut shown, left_over)?;
+    verdict_text(heap, &row, extra, verdict)
 }
 
 fn main(rt: HostRuntime) -> anyhow::Result<()> {
     let mut bytes = Vec::new(rt.alloc());
     rt.stdin().read_to_end(&mut bytes)?;
-    let row = formats::numbers(rt.alloc(), &bytes)?;
-    let input = match formats::read_input(&bytes, &row) {
-        Ok(input) => input,
-        Err(refusal) => return Ok(formats::print_refusal(&rt, refusal)?),
-    };
-    let extra = u64::from(input.extra);
-    let behind = &bytes[input.rest..];
-    let left_over = behind.len() % 4 != 0;
-    let mut shown = formats::numbers(rt.alloc(), behind)?;
-    match verdict_on(&row, extra, &mut shown, left_over)? {
-        Ok(verdict) => print_failure(&rt, &row, extra, verdict)?,
-        Err(refusal) => formats::print_refusal(&rt, refusal)?,
-    }
+    formats::print_answer(&rt, answer(rt.alloc(), &bytes))?;
     Ok(())
 }

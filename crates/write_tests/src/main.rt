@@ -1,7 +1,9 @@
 // Writes the tests for a machine: bytes in, lines out.
 #![tactic(auto)]
 
+use formats::{Failure, WordText};
 use std::alloc::{AllocError, Global};
+use std::fmt::Write;
 use std::io::Read;
 
 // A test a line, and how many there are.
@@ -11,30 +13,24 @@ fn lines(heap: Global, tests: &[u64]) -> Result<String, AllocError> {
     let mut place = 1usize;
     for _test in 0..count {
         let test = suite::test_at(tests, place);
-        let word = formats::word_text(heap, test)?;
-        text.push_str(word.as_str())?;
-        text.push('\n')?;
+        writeln!(text, "{}", WordText(test))?;
         place = place.saturating_add(1).saturating_add(test.len());
     }
-    let last = format!(in heap; "{count} tests")?;
-    text.push_str(last.as_str())?;
+    write!(text, "{count} tests")?;
     Ok(text)
+}
+
+// The tests for the machine and the extra states in an input.
+fn answer(heap: Global, bytes: &[u8]) -> Result<String, Failure> {
+    let row = formats::numbers(heap, bytes)?;
+    let input = formats::read_input(bytes, &row)?;
+    let tests = formats::tests_row(heap, &row, u64::from(input.extra))?;
+    Ok(lines(heap, &tests)?)
 }
 
 fn main(rt: HostRuntime) -> anyhow::Result<()> {
     let mut bytes = Vec::new(rt.alloc());
     rt.stdin().read_to_end(&mut bytes)?;
-    let row = formats::numbers(rt.alloc(), &bytes)?;
-    let extra = match formats::read_input(&bytes, &row) {
-        Ok(input) => u64::from(input.extra),
-        Err(refusal) => return Ok(formats::print_refusal(&rt, refusal)?),
-    };
-    match formats::tests_row(rt.alloc(), &row, extra)? {
-        Ok(tests) => {
-            let text = lines(rt.alloc(), &tests)?;
-            println!(rt; "{text}")?;
-        }
-        Err(refusal) => formats::print_refusal(&rt, refusal)?,
-    }
+    formats::print_answer(&rt, answer(rt.alloc(), &bytes))?;
     Ok(())
 }
