@@ -1,17 +1,18 @@
 // Runs stored cases through the libraries: a line `== NAME` begins the cases of one kind, each further line is a case.
 #![tactic(auto)]
 
+mod cases;
 mod machines;
 mod survivors;
 mod tests_cases;
 mod text;
 
-use anyhow::anyhow;
-use machines::{minimize_case, read_case, words_case};
+use anyhow::{Error, anyhow};
+use cases::{Case, NoAnswer};
 use std::io::Read;
-use survivors::{survive_case, survivor_case};
-use tests_cases::{large_case, refusal_case, tests_case, verdict_case};
+use std::str::FromStr;
 
+// What is asked of the cases.
 #[derive(Clone, Copy)]
 enum Kind {
     Read,
@@ -25,33 +26,51 @@ enum Kind {
     Verdict,
 }
 
-fn kind_named(name: &str) -> anyhow::Result<Kind> {
-    match name {
-        "read" => Ok(Kind::Read),
-        "minimize" => Ok(Kind::Minimize),
-        "words" => Ok(Kind::Words),
-        "survivor" => Ok(Kind::Survivor),
-        "survive" => Ok(Kind::Survive),
-        "tests" => Ok(Kind::Tests),
-        "large" => Ok(Kind::Large),
-        "refusals" => Ok(Kind::Refusal),
-        "verdicts" => Ok(Kind::Verdict),
-        _ => Err(anyhow!("no such kind of case")),
+impl FromStr for Kind {
+    type Err = Error;
+
+    fn from_str(name: &str) -> Result<Kind, Error> {
+        match name {
+            "read" => Ok(Kind::Read),
+            "minimize" => Ok(Kind::Minimize),
+            "words" => Ok(Kind::Words),
+            "survivor" => Ok(Kind::Survivor),
+            "survive" => Ok(Kind::Survive),
+            "tests" => Ok(Kind::Tests),
+            "large" => Ok(Kind::Large),
+            "refusals" => Ok(Kind::Refusal),
+            "verdicts" => Ok(Kind::Verdict),
+            _ => Err(anyhow!("no such kind of case")),
+        }
     }
 }
 
-fn run_case(rt: &HostRuntime, kind: Kind, text: &str) -> anyhow::Result<()> {
-    match kind {
-        Kind::Read => read_case(rt, text),
-        Kind::Minimize => minimize_case(rt, text),
-        Kind::Words => words_case(rt, text),
-        Kind::Survivor => survivor_case(rt, text),
-        Kind::Survive => survive_case(rt, text),
-        Kind::Tests => tests_case(rt, text),
-        Kind::Large => large_case(rt, text),
-        Kind::Refusal => refusal_case(rt, text),
-        Kind::Verdict => verdict_case(rt, text),
+impl Kind {
+    // The answer to a case of this kind.
+    fn answer(self, case: Case) -> Result<String, NoAnswer> {
+        match self {
+            Kind::Read => machines::read(case),
+            Kind::Minimize => machines::minimize(case),
+            Kind::Words => machines::words(case),
+            Kind::Survivor => survivors::survivor(case),
+            Kind::Survive => survivors::survive(case),
+            Kind::Tests => tests_cases::tests(case),
+            Kind::Large => tests_cases::large(case),
+            Kind::Refusal => tests_cases::refusal(case),
+            Kind::Verdict => tests_cases::verdict(case),
+        }
     }
+}
+
+fn run_case(rt: &HostRuntime, kind: Kind, line: &str) -> anyhow::Result<()> {
+    match kind.answer(Case::of(rt.alloc(), line)) {
+        Ok(answer) => println!(rt; "{answer}")?,
+        Err(NoAnswer::Refused(refusal)) => {
+            println!(rt; "{} {}", refusal.number(), refusal.place())?;
+        }
+        Err(NoAnswer::Failed(error)) => return Err(error),
+    }
+    Ok(())
 }
 
 fn main(rt: HostRuntime) -> anyhow::Result<()> {
@@ -60,7 +79,7 @@ fn main(rt: HostRuntime) -> anyhow::Result<()> {
     let mut kind = Kind::Read;
     for line in input.lines() {
         if let Some(name) = line.strip_prefix("== ") {
-            kind = kind_named(name)?;
+            kind = name.parse::<Kind>()?;
         } else {
             run_case(&rt, kind, line)?;
         }

@@ -1,42 +1,34 @@
 // Cases of survivors.
-use crate::machines::print_machine;
-use crate::text::{checksum, number, numbers, print_refusal};
+use crate::cases::{Case, NoAnswer};
+use crate::text::{Joined, checksum, machine_row};
 use anyhow::anyhow;
 
 // A row, the longest test and the room: how many states, or the refusal, and a checksum of the whole lent row.
-pub fn survivor_case(rt: &HostRuntime, text: &str) -> anyhow::Result<()> {
-    let mut parts = text.split('/');
-    let row = numbers(rt.alloc(), parts.next().unwrap_or(""))?;
-    let longest = number(parts.next())?;
-    let room = number(parts.next())?;
-    let mut out = vec![in rt.alloc(); 7u64; room as usize]?;
-    match survivor::survivor(&row, longest, &mut out) {
-        Ok(states) => {
-            let sum = checksum(&out);
-            println!(rt; "{states} states, {sum}")?;
-        }
+pub fn survivor(mut case: Case) -> Result<String, NoAnswer> {
+    let row = case.numbers()?;
+    let longest = case.number()?;
+    let room = case.number()?;
+    let mut out = vec![in case.heap; 7u64; room as usize]?;
+    let answer = survivor::survivor(&row, longest, &mut out);
+    let sum = checksum(&out);
+    Ok(match answer {
+        Ok(states) => format!(in case.heap; "{states} states, {sum}")?,
         Err(refusal) => {
-            let sum = checksum(&out);
-            let number = refusal.number();
-            let place = refusal.place();
-            println!(rt; "{number} {place}, {sum}")?;
+            format!(in case.heap; "{} {}, {sum}", refusal.number(), refusal.place())?
         }
-    }
-    Ok(())
+    })
 }
 
 // A row and the extra states: a survivor of the tests for them.
-pub fn survive_case(rt: &HostRuntime, text: &str) -> anyhow::Result<()> {
-    let mut parts = text.split('/');
-    let row = numbers(rt.alloc(), parts.next().unwrap_or(""))?;
-    let extra = number(parts.next())?;
-    let Ok(tests) = formats::tests_row(rt.alloc(), &row, extra)? else {
-        return Err(anyhow!("no tests"));
+pub fn survive(mut case: Case) -> Result<String, NoAnswer> {
+    let row = case.numbers()?;
+    let extra = case.number()?;
+    let Ok(tests) = formats::tests_row(case.heap, &row, extra) else {
+        return Err(anyhow!("no tests").into());
     };
     let longest = survivor::longest_test(&tests);
-    let mut out = vec![in rt.alloc(); 0u64; 65538]?;
-    match survivor::survivor(&row, longest, &mut out) {
-        Ok(states) => print_machine(rt, out, states),
-        Err(refusal) => Ok(print_refusal(rt, refusal)?),
-    }
+    let mut out = vec![in case.heap; 0u64; 65538]?;
+    let states = survivor::survivor(&row, longest, &mut out)?;
+    let survived = Joined(machine_row(&out, states));
+    Ok(format!(in case.heap; "{survived}")?)
 }

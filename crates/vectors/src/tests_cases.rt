@@ -1,89 +1,65 @@
 // Cases of tests and of judging.
-use crate::text::{checksum, number, numbers, print_refusal};
+use crate::cases::{Case, NoAnswer};
+use crate::text::{Joined, checksum};
+use formats::WordText;
+use std::alloc::{AllocError, Global};
 use verdict::Verdict;
 
-// The words of a row of tests, with blanks between them.
-fn words_line(rt: &HostRuntime, tests: &[u64]) -> anyhow::Result<String> {
-    let mut text = String::new(rt.alloc());
-    let count = tests.first().copied().unwrap_or(0);
+// The tests in a row, with blanks between them.
+fn tests_text(heap: Global, row: &[u64]) -> Result<String, AllocError> {
+    let mut tests = Vec::new(heap);
+    let count = row.first().copied().unwrap_or(0);
     let mut place = 1usize;
     for _test in 0..count {
-        let test = suite::test_at(tests, place);
-        if !text.is_empty() {
-            text.push(' ')?;
-        }
-        let word = formats::word_text(rt.alloc(), test)?;
-        text.push_str(word.as_str())?;
+        let test = suite::test_at(row, place);
+        tests.push(WordText(test))?;
         place = place.saturating_add(1).saturating_add(test.len());
     }
-    Ok(text)
+    format!(in heap; "{}", Joined(&tests))
+}
+
+// A row and the extra states: the row of the tests.
+fn tests_row(case: &mut Case) -> Result<Vec<u64>, NoAnswer> {
+    let row = case.numbers()?;
+    let extra = case.number()?;
+    Ok(formats::tests_row(case.heap, &row, extra)?)
 }
 
 // A row and the extra states: the tests in order.
-pub fn tests_case(rt: &HostRuntime, text: &str) -> anyhow::Result<()> {
-    let mut parts = text.split('/');
-    let row = numbers(rt.alloc(), parts.next().unwrap_or(""))?;
-    let extra = number(parts.next())?;
-    match formats::tests_row(rt.alloc(), &row, extra)? {
-        Ok(tests) => {
-            let line = words_line(rt, &tests)?;
-            println!(rt; "{line}")?;
-        }
-        Err(refusal) => print_refusal(rt, refusal)?,
-    }
-    Ok(())
+pub fn tests(mut case: Case) -> Result<String, NoAnswer> {
+    let row = tests_row(&mut case)?;
+    Ok(tests_text(case.heap, &row)?)
 }
 
 // A row and the extra states: how many tests, how many numbers they take, and a checksum of the written row.
-pub fn large_case(rt: &HostRuntime, text: &str) -> anyhow::Result<()> {
-    let mut parts = text.split('/');
-    let row = numbers(rt.alloc(), parts.next().unwrap_or(""))?;
-    let extra = number(parts.next())?;
-    match formats::tests_row(rt.alloc(), &row, extra)? {
-        Ok(tests) => {
-            let count = tests.first().copied().unwrap_or(0);
-            let needed = tests.len();
-            let sum = checksum(&tests);
-            println!(rt; "{count} {needed} {sum}")?;
-        }
-        Err(refusal) => print_refusal(rt, refusal)?,
-    }
-    Ok(())
+pub fn large(mut case: Case) -> Result<String, NoAnswer> {
+    let row = tests_row(&mut case)?;
+    let count = row.first().copied().unwrap_or(0);
+    Ok(format!(in case.heap; "{count} {} {}", row.len(), checksum(&row))?)
 }
 
 // A row, the extra states and the room: the refusal.
-pub fn refusal_case(rt: &HostRuntime, text: &str) -> anyhow::Result<()> {
-    let mut parts = text.split('/');
-    let row = numbers(rt.alloc(), parts.next().unwrap_or(""))?;
-    let extra = number(parts.next())?;
-    let room = number(parts.next())?;
-    let mut out = vec![in rt.alloc(); 7u64; room as usize]?;
-    match suite::write_tests(&row, extra, &mut out) {
-        Ok(count) => println!(rt; "{count} tests")?,
-        Err(refusal) => print_refusal(rt, refusal)?,
-    }
-    Ok(())
+pub fn refusal(mut case: Case) -> Result<String, NoAnswer> {
+    let row = case.numbers()?;
+    let extra = case.number()?;
+    let room = case.number()?;
+    let mut out = vec![in case.heap; 7u64; room as usize]?;
+    let count = suite::write_tests(&row, extra, &mut out)?;
+    Ok(format!(in case.heap; "{count} tests")?)
 }
 
 // A row, the extra states and what was shown: the verdict.
-pub fn verdict_case(rt: &HostRuntime, text: &str) -> anyhow::Result<()> {
-    let mut parts = text.split('/');
-    let row = numbers(rt.alloc(), parts.next().unwrap_or(""))?;
-    let extra = number(parts.next())?;
-    let shown = numbers(rt.alloc(), parts.next().unwrap_or(""))?;
-    match verdict::judge(&row, extra, &shown) {
-        Ok(Verdict::Passed) => rt.println("passed")?,
-        Ok(
-            Verdict::Failed {
-                test,
-                key,
-                shown,
-                expected,
-            },
-        ) => {
-            println!(rt; "failed {test} at {key}: {shown} for {expected}")?;
-        }
-        Err(refusal) => print_refusal(rt, refusal)?,
-    }
-    Ok(())
+pub fn verdict(mut case: Case) -> Result<String, NoAnswer> {
+    let row = case.numbers()?;
+    let extra = case.number()?;
+    let seen = case.numbers()?;
+    Ok(match verdict::judge(&row, extra, &seen)? {
+        Verdict::Passed => String::from_str(case.heap, "passed")?,
+        Verdict::Failed {
+            test,
+            key,
+            shown,
+            expected,
+        } => format!(in case.heap; "failed {test} at {key}: {shown} for {expected}")?,
+    })
 }
