@@ -32,7 +32,7 @@ pub fn word_text(heap: Global, word: &[u64]) -> Result<String, AllocError>
 }
 
 // An answer or a refusal as a line.
-pub fn print_answer(rt: &HostRuntime, answer: Result<String, Failure>) -> io::Result<()> {
+pub fn print_answer(rt: &impl Print, answer: Result<String, Failure>) -> io::Result<()> {
     match answer {
         Ok(text) => rt.println(text),
         Err(Failure::OutOfMemory) => Err(AllocError.into()),

@@ -1,6 +1,5 @@
 // Deciding by itself whether two machines are equivalent, and what a machine shows: no library but for the tests.
 use crate::boards::Board;
-use machine::word_at;
 use std::alloc::{AllocError, Global};
 use std::collections::BTreeSet;
 
@@ -50,7 +49,7 @@ pub fn shown(heap: Global, board: &Board, tests: &[u64]) -> Result<Vec<u64>, All
     let count = tests.first().copied().unwrap_or(0);
     let mut place = 1usize;
     for _test in 0..count {
-        let test = word_at(tests, place);
+        let test = suite::test_at(tests, place);
         add_shown(board, test, &mut all)?;
         place = place.saturating_add(1).saturating_add(test.len());
     }

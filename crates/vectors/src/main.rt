@@ -62,7 +62,7 @@ impl Kind {
     }
 }
 
-fn run_case(rt: &HostRuntime, kind: Kind, line: &str) -> anyhow::Result<()> {
+fn run_case(rt: &(impl Print + AllocGlobal), kind: Kind, line: &str) -> anyhow::Result<()> {
     match kind.answer(Case::of(rt.alloc(), line)) {
         Ok(answer) => println!(rt; "{answer}")?,
         Err(NoAnswer::Refused(refusal)) => {
