@@ -17,9 +17,7 @@ pub enum Failure {
 impl fmt::Display for Failure {
     fn fmt<W: fmt::Write>(&self, f: &mut fmt::Formatter<W>) -> fmt::Result {
         match self {
-            Failure::Refused(refusal) => {
-                write!(f, "refused {} at {}", refusal.number(), refusal.place())
-            }
+            Failure::Refused(refusal) => write!(f, "{refusal}"),
             Failure::OutOfMemory => write!(f, "out of memory"),
         }
     }

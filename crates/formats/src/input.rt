@@ -2,7 +2,7 @@
 ghost use Rattle.std.specs.Prelude.{◌≡◌, IfOk};
 ghost use Rattle.formats.specs.Input.{numbers_in, InputRead};
 
-use machine::{Refusal, Shape};
+use machine::{Machine, Refusal, Shape};
 use std::alloc::{AllocError, Global};
 
 // A machine's shape, the number of extra states, and the bytes behind that.
@@ -34,7 +34,7 @@ pub fn read_input<'a>(bytes: &'a [u8], row: &[u64]) -> Result<Input<'a>, Refusal
     let Some([extra, rest @ ..]) = bytes.get(place..) else {
         return Err(Refusal::Malformed(row.len() as u64));
     };
-    let shape = machine::read(row)?;
+    Machine::read(row)?;
     Ok(Input {
         shape,
         extra: *extra,

@@ -17,10 +17,7 @@ use tally::Tally;
 // Whether a machine is minimal.
 fn is_minimal(heap: Global, machine: &Board) -> anyhow::Result<bool> {
     let row = machine.row(heap)?;
-    Ok(match machine::read(&row) {
-        Ok(shape) => minimal::redundant(Machine::over(&row, shape)).is_none(),
-        Err(_) => false,
-    })
+    Ok(Machine::read(&row).is_ok_and(|machine| minimal::redundant(machine).is_none()))
 }
 
 // Some boards for a machine, each with 0, 1 and 2 extra states.

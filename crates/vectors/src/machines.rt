@@ -1,17 +1,17 @@
 // Cases of machines alone: reading, minimizing, covering.
 use crate::cases::{Case, NoAnswer};
 use crate::text::{Joined, machine_row};
-use anyhow::anyhow;
 use cover::{Cover, Word};
 use formats::WordText;
 use machine::Machine;
+use minimal::MinimalMachine;
 use std::alloc::{AllocError, Global};
 
 // A row: its numbers of states and keys.
 pub fn read(mut case: Case) -> Result<String, NoAnswer> {
     let row = case.numbers()?;
-    let shape = machine::read(&row)?;
-    Ok(format!(in case.heap; "{} states, {} keys", shape.states, shape.keys)?)
+    let machine = Machine::read(&row)?;
+    Ok(format!(in case.heap; "{} states, {} keys", machine.states(), machine.keys())?)
 }
 
 // A row: the row of its minimal machine.
@@ -27,7 +27,7 @@ pub fn minimize(mut case: Case) -> Result<String, NoAnswer> {
 fn words_text(heap: Global, words: &[Word]) -> Result<String, AllocError> {
     let texts: Vec<WordText> = words
         .iter()
-        .map(|word| WordText(&word.keys[0..word.len]))
+        .map(|word| WordText(word.as_slice()))
         .collect(heap)?;
     format!(in heap; "{}", Joined(&texts))
 }
@@ -35,15 +35,8 @@ fn words_text(heap: Global, words: &[Word]) -> Result<String, AllocError> {
 // A minimal machine's row: its access words and its separating words.
 pub fn words(mut case: Case) -> Result<String, NoAnswer> {
     let row = case.numbers()?;
-    let Ok(shape) = machine::read(&row) else {
-        return Err(anyhow!("no machine").into());
-    };
-    let m = Machine::over(&row, shape);
-    if minimal::redundant(m).is_some() {
-        return Err(anyhow!("not minimal").into());
-    }
-    let cover = Cover::of(m);
-    let access = words_text(case.heap, &cover.access[0..cover.states])?;
-    let separating = words_text(case.heap, &cover.separating[0..cover.count])?;
+    let cover = Cover::of(MinimalMachine::check(Machine::read(&row)?)?);
+    let access = words_text(case.heap, &cover.access)?;
+    let separating = words_text(case.heap, &cover.separating)?;
     Ok(format!(in case.heap; "{access} | {separating}")?)
 }

@@ -1,4 +1,4 @@
-use Rattle.std.proofs.Common.{arith}
+use Rattle.std.proofs.Common.{◌∙◌, arith}
 use Rattle.formats.proofs.Inputs.{place_is, past_extra, inside, element, behind}
 use Rattle.formats.proofs.input.read_input.Goals as goal
 
@@ -11,10 +11,9 @@ returns c =
     let is = c.in-Some-len1-up.ensures.lookup.0.2 in
     let some = c.in-Some-len1-up.len_at_least in
     let told = c.in_ok-shape.ensures in
-    let again = c.in_ok-shape-2.ensures in
     let at = place_is bytes row _ told.0 told.1 in
     let within = inside bytes tail _ is some in
     let first = element bytes tail _ is some in
     let rest = behind bytes tail _ is some in
     let accepted = past_extra bytes row _ told.0 told.1 within in
-    (cc, again.head, cc, omega (arith, at), cc)
+    (accepted ∙ c.in_ok-read.ensures.accepted, told.1, cc, omega (arith, at), cc)
