@@ -102,57 +102,61 @@ pub looking_answers :
 looking_answers w ws r is = let d = looking_decides w ws in (λ y. d.0 (sym is ∙ y), λ i. is ∙ d.1 i)
 
 -- the words are those told so far, each once
-abbrev pub KeptTo : ℕ → Machine → ℕ → ℕ → List (ArrayVec ℕ) → Type 0
-KeptTo k m s t ws = words_of ws ≡ once_from [] (told_to k m s t)
+pub record KeptTo (k : ℕ) (m : Machine) (s t : ℕ) (ws : List (ArrayVec ℕ)) : Type 0 where
+  pub kept : words_of ws ≡ once_from [] (told_to k m s t)
 
-module _ (k : ℕ) (m : Machine) where
-  -- at the beginning no word is kept
-  pub kept_starts : (ws : List (ArrayVec ℕ)) → ws ≡ [] → KeptTo k m 0 0 ws
-  unfolding once_from
-  kept_starts ws none = rw (none, told_none k m) refl
+-- at the beginning no word is kept
+pub kept_starts : {k : ℕ} {m : Machine} {ws : List (ArrayVec ℕ)} → ws ≡ [] → KeptTo k m 0 0 ws
+unfolding once_from
+kept_starts {k} {m} none = record { kept = rw (none, told_none k m) refl }
 
-  -- with all states below s told from it the next state begins
-  pub kept_row : (s : ℕ) (ws : List (ArrayVec ℕ)) → KeptTo k m s s ws → KeptTo k m (s + 1) 0 ws
-  kept_row s ws h = rw (told_row k m s) h
+-- with all states below s told from it the next state begins
+pub kept_row : {k : ℕ} {m : Machine} {s t : ℕ} {ws : List (ArrayVec ℕ)} → t ≡ s → KeptTo k m s t ws → KeptTo k m (s + 1) 0 ws
+kept_row {k} {m} {s} end h = record { kept = rw (told_row k m s) (rw end at h.kept) }
 
-  -- all pairs were told
-  pub kept_all : (ws : List (ArrayVec ℕ)) → KeptTo k m (length m) 0 ws → words_of ws ≡ once_from [] (telling_words k m)
-  kept_all ws h = h ∙ ap (once_from []) (told_all k m)
+-- with all states told from those below them all pairs were told
+pub kept_all : {k : ℕ} {m : Machine} {s : ℕ} {ws : List (ArrayVec ℕ)} → s ≡ length m → KeptTo k m s 0 ws → words_of ws ≡ once_from [] (telling_words k m)
+kept_all {k} {m} end h = rw end at h.kept ∙ ap (once_from []) (told_all k m)
 
-  -- of at most 16 states there are at most 120 pairs, and so many words that tell them apart
-  pub few_separating : length m ≤ 16 → length (separating_words k m) ≤ 120
+-- of at most 16 states there are at most 120 pairs, and so many words that tell them apart
+pub few_separating : (k : ℕ) (m : Machine) → length m ≤ 16 → length (separating_words k m) ≤ 120
+unfolding pairs
+few_separating k m few =
+    elim (cases_lt 1 (length m)) [
+      | inl l ↦
+          let a = length_once [] (telling_words k m) in
+          let b = ap length (told_all k m) in
+          let c = length_told k m (length m) 0 in
+          let d = pairs_grow (length m) 16 few in
+          rw (several_states k m l) (omega arith)
+      | inr g ↦ rw (one_state k m g) (omega arith)
+    ]
+
+module _ {k : ℕ} {m : Machine} {s t : ℕ} {ws : List (ArrayVec ℕ)} (h : KeptTo k m s t ws) where
+  -- there is room for one word more
+  pub kept_room : s < 16 → t < s → length ws < 120
   unfolding pairs
-  few_separating few =
-      elim (cases_lt 1 (length m)) [
-        | inl l ↦
-            let a = length_once [] (telling_words k m) in
-            let b = ap length (told_all k m) in
-            let c = length_told k m (length m) 0 in
-            let d = pairs_grow (length m) 16 few in
-            rw (several_states k m l) (omega arith)
-        | inr g ↦ rw (one_state k m g) (omega arith)
-      ]
+  kept_room hs ht =
+      let a = length-map ws word_of in
+      let b = ap length h.kept in
+      let c = length_once [] (told_to k m s t) in
+      let d = length_told k m s t in
+      let e = pairs_grow (suc s) 16 (omega arith) in
+      omega arith
 
-  module _ (s t : ℕ) (ws : List (ArrayVec ℕ)) (h : KeptTo k m s t ws) where
-    -- there is room for one word more
-    pub kept_room : s < 16 → t < s → length ws < 120
-    unfolding pairs
-    kept_room hs ht =
-        let a = length-map ws word_of in
-        let b = ap length h in
-        let c = length_once [] (told_to k m s t) in
-        let d = length_told k m s t in
-        let e = pairs_grow (suc s) 16 (omega arith) in
-        omega arith
+  -- the word of the next pair was kept before
+  pub kept_again : {w : Word} → w ≡ telling_word k m t s → In w (words_of ws) → KeptTo k m s (t + 1) ws
+  kept_again is there =
+      record {
+        kept = h.kept
+            ∙ sym (ap (once_from []) (told_more k m s t) ∙ once_again [] (told_to k m s t) (telling_word k m t s) (inr (rw (← h.kept, ← is) there)));
+      }
 
-    -- the word of the next pair was kept before
-    pub kept_again : (w : Word) → w ≡ telling_word k m t s → In w (words_of ws) → KeptTo k m s (t + 1) ws
-    kept_again w is there =
-        h ∙ sym (ap (once_from []) (told_more k m s t) ∙ once_again [] (told_to k m s t) (telling_word k m t s) (inr (rw (← h, ← is) there)))
-
-    -- or is new
-    pub kept_more : (w : ArrayVec ℕ) → word_of w ≡ telling_word k m t s → (In (word_of w) (words_of ws) → ⊥) → KeptTo k m s (t + 1) (ws ++ w ∷ [])
-    kept_more w is new =
-        map_push word_of ws w
-        ∙ ap₂ (λ a b. a ++ b ∷ []) h is
-        ∙ sym (ap (once_from []) (told_more k m s t) ∙ once_new [] (told_to k m s t) (telling_word k m t s) Memᴰ.not-nil (λ g. new (rw (h, is) g)))
+  -- or is new
+  pub kept_more : {w : ArrayVec ℕ} → word_of w ≡ telling_word k m t s → (In (word_of w) (words_of ws) → ⊥) → KeptTo k m s (t + 1) (ws ++ w ∷ [])
+  kept_more {w} is new =
+      record {
+        kept = map_push word_of ws w
+            ∙ ap₂ (λ a b. a ++ b ∷ []) h.kept is
+            ∙ sym (ap (once_from []) (told_more k m s t) ∙ once_new [] (told_to k m s t) (telling_word k m t s) Memᴰ.not-nil (λ g. new (rw (h.kept, is) g)));
+      }

@@ -1,5 +1,5 @@
 -- The level at which states are told apart: which levels it says that they are alike at, one round more, and what is read out of a table of them. Assumes nothing.
-use Rattle.std.proofs.Common.{◌≡◌, ℕ, zero, suc, ◌+◌, ◌*◌, ◌<◌, ◌≤◌, true, false, ltb, List, length, get_or, set, replicate, sym, ◌∙◌, inl, inr, add-one, arith}
+use Rattle.std.proofs.Common.{◌≡◌, ℕ, zero, suc, ◌+◌, ◌*◌, ◌<◌, ◌≤◌, true, false, ltb, List, length, get_or, set, replicate, sym, ◌∙◌, inl, inr, arith}
 use Rattle.std.proofs.lemmas.List.{length-set, get_or-replicate, get_or-set_same, get_or-set_other}
 use Rattle.std.proofs.lemmas.Bool.{cases_Bool, cases_lt, both_ways, cond-true, cond-false, eq-eqb}
 use Rattle.std.proofs.lemmas.Bool.Decides.{same_from_decides, Decides-ltb}
@@ -48,21 +48,9 @@ Filled k m b done es =
     (16 * s + t < done → get_or es (16 * s + t) 0 ≡ level k m (suc b) s t) × (done ≤ 16 * s + t → get_or es (16 * s + t) 0 ≡ level k m b s t))
 
 module _ (k : ℕ) (m : Machine) (b : ℕ) (few : length m ≤ 16) where
-  -- before the round no entry has gone further
-  pub filled_start : (es : List ℕ) → length es ≡ 256 → LevelsBelow k m b es → Filled k m b 0 es
-  filled_start es long h = (long, λ s t hs ht. (λ l. absurd (omega arith), λ l. h s t hs ht))
-
-  -- with the entries of state s done, those of the next state begin
-  pub filled_row : (s : ℕ) (es : List ℕ) → Filled k m b (16 * s + length m) es → Filled k m b (16 * (s + 1)) es
-  filled_row s es h = (h.0, λ p q hp hq. (λ l. (h.1 p q hp hq).0 (omega arith), λ l. (h.1 p q hp hq).1 (omega arith)))
-
-  -- with the entries of all states done the round is over
-  pub filled_end : (es : List ℕ) → Filled k m b (16 * length m) es → LevelsBelow k m (b + 1) es
-  filled_end es h s t hs ht = rw (add-one b) ((h.1 s t hs ht).0 (omega arith))
-
   module _ (s t : ℕ) (es : List ℕ) (hs : s < length m) (ht : t < length m) (filled : Filled k m b (16 * s + t) es) where
     -- the next two states are not alike at level b, and their entry stays
-    pub filled_no : alike k m b s t ≡ false → Filled k m b (16 * s + t + 1) es
+    pub filled_no : alike k m b s t ≡ false → Filled k m b (16 * s + (t + 1)) es
     unfolding level
     filled_no e = (
       filled.0,
@@ -79,7 +67,7 @@ module _ (k : ℕ) (m : Machine) (b : ℕ) (few : length m ≤ 16) where
     )
 
     -- the next two states are alike at level b, and their entry becomes b + 1
-    pub filled_yes : (v : ℕ) → v ≡ suc b → alike k m b s t ≡ true → Filled k m b (16 * s + t + 1) (set es (16 * s + t) v)
+    pub filled_yes : (v : ℕ) → v ≡ suc b → alike k m b s t ≡ true → Filled k m b (16 * s + (t + 1)) (set es (16 * s + t) v)
     unfolding level
     filled_yes v is e =
         let long = filled.0 in (

@@ -1,5 +1,5 @@
 -- Making the first word that tells two states apart key by key: what holds before each key. Assumes nothing.
-use Rattle.std.proofs.Common.{◌≡◌, ℕ, zero, suc, ◌+◌, ◌<◌, not, IsSome, Some, [], ◌∷◌, ◌++◌, length, sym, refl, ap, ◌∙◌, inl, inr, append_assoc, append-nil, length-append, arith}
+use Rattle.std.proofs.Common.{◌≡◌, ℕ, zero, suc, ◌+◌, ◌-◌, ◌<◌, not, IsSome, Some, [], ◌∷◌, ◌++◌, length, sym, refl, ap, ◌∙◌, subst, inl, inr, append_assoc, length-append, arith}
 use Rattle.std.proofs.lemmas.Bool.{cases_Bool, cases_lt, both_ways}
 use Rattle.machine.specs.Machine.{Machine, Word, move}
 use Rattle.minimal.specs.Levels.{alike}
@@ -34,39 +34,40 @@ module _ (k : ℕ) (m : Machine) (t s : ℕ) where
 
   -- at the beginning nothing was made, and as many keys are left as the level says
   pub turn_starts :
-      (left : ℕ) (w : Word) → t < length m → s < length m → level k m (length m) t s < length m → left ≡ level k m (length m) t s → w ≡ [] →
+      {left : ℕ} {w : Word} → t < length m → s < length m → level k m (length m) t s < length m → left ≡ level k m (length m) t s → w ≡ [] →
       Turn k m t s left t s w
-  turn_starts left w ht hs low is empty = go (level k m (length m) t s) refl
+  turn_starts {left} {w} ht hs low is empty = go (level k m (length m) t s) refl
     where
       go : (l : ℕ) → level k m (length m) t s ≡ l → Turn k m t s left t s w
       go zero e = absurd (let l = alike_level k m (length m) 0 t s (omega arith) (alike_zero k m t s) in omega arith)
       go (suc j) e = rw (is ∙ e, empty) (record { first = ht; second = hs; short = omega arith; apart = apart_from_level j e (omega arith); made = refl })
 
-  module _ (left j p q : ℕ) (w : Word) (e : left ≡ suc j) (turn : Turn k m t s left p q w) where
-    -- with j + 1 keys left the states are apart at level j + 1
-    here : Apart k m j p q
-    here = rw e at turn.apart
+module _ {k : ℕ} {m : Machine} {t s left p q : ℕ} {w : Word} (some : 0 < left) (turn : Turn k m t s left p q w) where
+  -- one of the keys that are left is the next
+  next : left ≡ suc (left - 1)
+  next = omega arith
 
-    -- so a key tells them apart
-    pub turn_key : IsSome (first_key k m j p q)
-    turn_key = key_there k m j p q ∙ ap not here.apart_at
+  -- with so many keys left the states are apart at that level
+  here : Apart k m (left - 1) p q
+  here = subst (λ n. Left k m n p q) next turn.apart
 
-    -- one key more: the smallest that does not agree
-    pub turn_goes :
-        (x p' q' : ℕ) (w' : Word) → first_key k m j p q ≡ Some x →
-        p' ≡ (move m p x).to → q' ≡ (move m q x).to → p' < length m → q' < length m → w' ≡ w ++ x ∷ [] →
-        Turn k m t s j p' q' w'
-    turn_goes x p' q' w' is_key to_p to_q hp hq with_key =
-        let short = turn.short in
-        let step = telling_step k m j p q x (omega arith) here (key_is k m j p q x is_key) in
-        record {
-          first = hp;
-          second = hq;
-          short = rw with_key (omega (arith, length-append w (x ∷ [])));
-          apart = rw (to_p, to_q) step.1;
-          made = rw (with_key, to_p, to_q) (append_assoc w (x ∷ []) (rest_of k m j (move m p x).to (move m q x).to) ∙ ap (λ z. w ++ z) (sym step.0) ∙ rw e at turn.made);
-        }
+  -- so a key tells them apart
+  pub turn_key : IsSome (first_key k m (left - 1) p q)
+  turn_key = key_there k m (left - 1) p q ∙ ap not here.apart_at
 
-  -- with no key left the word is made
-  pub turn_ends : (left p q : ℕ) (w : Word) → left ≡ 0 → Turn k m t s left p q w → w ≡ telling_word k m t s
-  turn_ends left p q w e turn = sym (append-nil w) ∙ rw e at turn.made
+  -- one key more: the smallest that does not agree
+  pub turn_goes :
+      {x p' q' : ℕ} {w' : Word} → first_key k m (left - 1) p q ≡ Some x →
+      p' ≡ (move m p x).to → q' ≡ (move m q x).to → p' < length m → q' < length m → w' ≡ w ++ x ∷ [] →
+      Turn k m t s (left - 1) p' q' w'
+  turn_goes {x} {p'} {q'} {w'} is_key to_p to_q inside_p inside_q with_key =
+      let short = turn.short in
+      let step = telling_step k m (left - 1) p q x (omega arith) here (key_is k m (left - 1) p q x is_key) in
+      let made = subst (λ n. w ++ rest_of k m n p q ≡ telling_word k m t s) next turn.made in
+      record {
+        first = inside_p;
+        second = inside_q;
+        short = rw with_key (omega (arith, length-append w (x ∷ [])));
+        apart = rw (to_p, to_q) step.1;
+        made = rw (with_key, to_p, to_q) (append_assoc w (x ∷ []) (rest_of k m (left - 1) (move m p x).to (move m q x).to) ∙ ap (λ z. w ++ z) (sym step.0) ∙ made);
+      }

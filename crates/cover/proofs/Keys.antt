@@ -1,5 +1,5 @@
--- The first number that passes a test: what it is, and that looking through the numbers below a bound finds it. Assumes nothing.
-use Rattle.std.proofs.Common.{◌≡◌, ℕ, zero, suc, ◌+◌, Bool, cond, [], ◌∷◌, ◌++◌, Option, Some, None, sym, refl, ap, ◌∙◌, subst, inl, inr, add-one, arith}
+-- Looking through the numbers below a bound for one that passes a test: it finds the first. Assumes nothing.
+use Rattle.std.proofs.Common.{◌≡◌, ℕ, zero, suc, ◌+◌, ◌<◌, Bool, false, cond, ◌⊎◌, [], ◌∷◌, ◌++◌, Option, Some, None, sym, refl, ap, ◌∙◌, subst, inl, inr, add-one, arith}
 use Rattle.std.specs.List.{range_with_len, find}
 use Rattle.std.specs.Option.{option_or}
 use Rattle.std.proofs.lemmas.List.{map-id}
@@ -18,7 +18,7 @@ first_answer None b = refl
 first_answer (Some x) b = refl
 
 -- looking through the numbers below n finds the first that passes
-pub find_first : (p : ℕ → Bool) (n : ℕ) → find p (range_with_len 0 n) ≡ first p n
+find_first : (p : ℕ → Bool) (n : ℕ) → find p (range_with_len 0 n) ≡ first p n
 unfolding first
 find_first p zero = refl
 find_first p (suc n) =
@@ -28,10 +28,15 @@ find_first p (suc n) =
     ∙ first_answer (find p (range_with_len 0 n)) (cond (p n) (Some n) None)
     ∙ ap (λ z. or_else z (cond (p n) (Some n) None)) (find_first p n)
 
--- what is found first is below n and passes, and nothing below it does
-pub first_found : (p : ℕ → Bool) (n x : ℕ) → first p n ≡ Some x → Found p n x
-first_found p n x e =
-    elim (first_cases p n) [
+-- it finds nothing if none passes, and otherwise the first
+pub find_cases :
+    (p : ℕ → Bool) (n : ℕ) → ((find p (range_with_len 0 n) ≡ None) × ((j : ℕ) → j < n → p j ≡ false)) ⊎ ((j : ℕ) × (find p (range_with_len 0 n) ≡ Some j) × Found p n j)
+find_cases p n = rw (find_first p n) (first_cases p n)
+
+-- what it finds is the first
+pub found_first : (p : ℕ → Bool) (n x : ℕ) → find p (range_with_len 0 n) ≡ Some x → Found p n x
+found_first p n x e =
+    elim (find_cases p n) [
       | inl a ↦ absurd (let z : ◌≡◌ {A = ℕ} 0 1 = (let b = a.0 in cc) in omega arith)
       | inr f ↦ subst (Found p n) (let b = f.1 in cc) f.2
     ]

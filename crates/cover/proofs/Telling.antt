@@ -5,13 +5,12 @@ use Rattle.std.proofs.lemmas.Bool.{cases_Bool, cases_eq, and_parts, both_ways, n
 use Rattle.machine.specs.Machine.{Machine, Word, Keys, move, outputs}
 use Rattle.machine.specs.Words.{Before, FirstWord, up_to, same}
 use Rattle.machine.proofs.Enumeration.{first_in, first_in_is}
-use Rattle.machine.proofs.First.{first_cases}
 use Rattle.machine.proofs.Once.{same_false, differ_same}
 use Rattle.minimal.specs.Levels.{alike, agrees_on}
 use Rattle.minimal.proofs.Alike.{every_from, every_not, alike_step, alike_zero, alike_shows}
 use Rattle.cover.specs.Cover.{Tells, first_telling}
 use Rattle.cover.specs.Levels.{first_key}
-use Rattle.cover.proofs.Keys.{first_found}
+use Rattle.cover.proofs.Keys.{found_first, find_cases}
 
 -- whether a word tells states t and s apart
 abbrev pub telling_test : Machine → ℕ → ℕ → Word → Bool
@@ -73,14 +72,14 @@ module _ (k : ℕ) (m : Machine) (j t s : ℕ) where
   -- the first key that was found not to agree is the smallest
   pub key_is : (x : ℕ) → first_key k m j t s ≡ Some x → FirstKey k m j t s x
   key_is x e =
-      let f = first_found (λ x. not (agrees_on k m j t s x)) k x e in
+      let f = found_first (λ x. not (agrees_on k m j t s x)) k x e in
       record { inside = f.inside; here = disagrees x (not-true _ f.passes); none = λ y l. agrees y (not-false _ (f.none y l)) }
 
   -- there is such a key exactly if the states are not alike one level higher
   pub key_there : is_some (first_key k m j t s) ≡ not (alike k m (suc j) t s)
   unfolding alike
   key_there =
-      elim (first_cases (λ x. not (agrees_on k m j t s x)) k) [
+      elim (find_cases (λ x. not (agrees_on k m j t s x)) k) [
         | inl n ↦ rw (n.0, every_from (agrees_on k m j t s) k (λ x l. not-false _ (n.1 x l))) refl
         | inr f ↦ let r = f.2 in rw (f.1, every_not (agrees_on k m j t s) k f.0 r.inside (not-true _ r.passes)) refl
       ]

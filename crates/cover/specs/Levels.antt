@@ -1,6 +1,6 @@
 -- The level at which two states are told apart, and a table of these. Assumes nothing: these are definitions.
 use Rattle.std.specs.Prelude.{◌≡◌, ℕ, zero, suc, ◌+◌, ◌*◌, ◌<◌, cond, not, List, length, Option, nat_lt, slice_index}
-use Rattle.machine.specs.First.{first}
+use Rattle.std.specs.List.{range_with_len, find}
 use Rattle.machine.specs.Machine.{Machine}
 use Rattle.minimal.specs.Levels.{alike, agrees_on}
 
@@ -23,4 +23,4 @@ LevelsBelow k m b es = (s t : ℕ) → s < length m → t < length m → entry e
 
 -- the smallest key that does not agree on states s and t at level j, if there is one
 abbrev pub first_key : ℕ → Machine → ℕ → ℕ → ℕ → Option ℕ
-first_key k m j s t = first (λ x. not (agrees_on k m j s t x)) k
+first_key k m j s t = find (λ x. not (agrees_on k m j s t x)) (range_with_len 0 k)

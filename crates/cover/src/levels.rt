@@ -1,5 +1,5 @@
 // At which level two states are told apart: how many keys it takes.
-ghost use Rattle.std.specs.Prelude.{◌≡◌, suc, ◌<◌, length};
+ghost use Rattle.std.specs.Prelude.{◌≡◌, suc, ◌<◌, ◌≤◌, length};
 ghost use Rattle.machine.specs.Run.{model, keys_of};
 ghost use Rattle.minimal.specs.Levels.{alike, agrees_on};
 ghost use Rattle.cover.specs.Levels.{entry, LevelsBelow, first_key};
@@ -12,6 +12,7 @@ pub(crate) struct Levels<'a> {
     pub(crate) machine: Machine<'a>,
     pub(crate) bound: usize,
     pub(crate) entries: [usize; 256],
+    ghost few: { length (model machine) ≤ 16 },
     ghost some: { 0 < bound },
     ghost known: { LevelsBelow (keys_of machine) (model machine) bound entries },
 }

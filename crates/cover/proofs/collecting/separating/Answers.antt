@@ -1,11 +1,10 @@
-use Rattle.std.proofs.Common.{◌≡◌, length, sym, ◌∙◌, subst, arith}
+use Rattle.std.proofs.Common.{sym, ◌∙◌, arith}
 use Rattle.std.proofs.lemmas.Bool.{both_ways}
 use Rattle.machine.specs.Run.{model}
 use Rattle.machine.proofs.Views.{view_proper, few_states}
 use Rattle.minimal.proofs.Known.{known_minimal}
 use Rattle.minimal.proofs.Moore.{short_separation}
-use Rattle.cover.specs.Words.{word_of}
-use Rattle.cover.proofs.Collected.{KeptTo, kept_starts, kept_row, kept_room, kept_again, kept_more, kept_all}
+use Rattle.cover.proofs.Collected.{kept_starts, kept_row, kept_room, kept_again, kept_more, kept_all}
 use Rattle.cover.proofs.Greedy.{level_from_apart}
 use Rattle.cover.proofs.Separating.{apart_level, several_states, one_state}
 use Rattle.cover.proofs.collecting.separating.Goals as goal
@@ -17,7 +16,7 @@ returns-then-states-le1 c =
     rw (c.push.ensures.items, c.new-words.ensures, c.new.ensures) (sym (one_state c.args.m.machine.keys (model c.args.m.machine) (omega arith)))
 
 pub loop-s-init : goal.loop-s-init
-loop-s-init c = kept_starts c.args.m.machine.keys (model c.args.m.machine) c.new-words.result.items c.new-words.ensures
+loop-s-init c = kept_starts c.new-words.ensures
 
 pub telling_word-word-requires-clause-apart : goal.telling_word-word-requires-clause-apart
 telling_word-word-requires-clause-apart c =
@@ -26,40 +25,32 @@ telling_word-word-requires-clause-apart c =
     rw c.of-levels.ensures.0 (level_from_apart m.keys (model m) c.pairs.t c.loop-s.s apart.0 apart.2 apart.1)
 
 pub pairs-preserved-then-is_among : goal.pairs-preserved-then-is_among
-pairs-preserved-then-is_among c =
-    let m = c.args.m.machine in (
-      c.pairs.invariant.0,
-      kept_again m.keys (model m) c.loop-s.s c.pairs.t c.pairs.words.items c.pairs.invariant.1 (word_of c.telling_word-word.result)
-          (rw c.of-levels.ensures.0 at c.telling_word-word.ensures) (rw (← c.deref.ensures.0) (c.is_among.ensures.0 c.if-is_among.true)),
-    )
+pairs-preserved-then-is_among c = (
+  c.pairs.invariant.0,
+  kept_again c.pairs.invariant.1 (rw c.of-levels.ensures.0 at c.telling_word-word.ensures) (rw (← c.deref.ensures.0) (c.is_among.ensures.0 c.if-is_among.true)),
+)
 
 pub push-requires-in-pairs : goal.push-requires-in-pairs
 push-requires-in-pairs c =
     let f = few_states c.args.m.machine in
-    let hs = c.pairs.invariant.0 in
-    let room = kept_room c.args.m.machine.keys (model c.args.m.machine) c.loop-s.s c.pairs.t c.pairs.words.items c.pairs.invariant.1 (omega arith) c.pairs-test.true in
-    (omega arith, room)
+    let s = c.pairs.invariant.0 in
+    (omega arith, kept_room c.pairs.invariant.1 (omega arith) c.pairs-test.true)
 
 pub pairs-preserved : goal.pairs-preserved
-pairs-preserved c =
-    let m = c.args.m.machine in (
-      c.pairs.invariant.0,
-      rw c.push-in-pairs.ensures.items
-          (kept_more m.keys (model m) c.loop-s.s c.pairs.t c.pairs.words.items c.pairs.invariant.1 c.telling_word-word.result (rw c.of-levels.ensures.0 at c.telling_word-word.ensures)
-          (λ i. both_ways _ c.if-is_among.false (c.is_among.ensures.1 (rw c.deref.ensures.0 i)))),
-    )
+pairs-preserved c = (
+  c.pairs.invariant.0,
+  rw c.push-in-pairs.ensures.items
+      (kept_more c.pairs.invariant.1 (rw c.of-levels.ensures.0 at c.telling_word-word.ensures) (λ i. both_ways _ c.if-is_among.false (c.is_among.ensures.1 (rw c.deref.ensures.0 i)))),
+)
 
 pub loop-s-preserved : goal.loop-s-preserved
-loop-s-preserved c =
-    let m = c.args.m.machine in
-    let end : c.pairs.t ≡ c.loop-s.s = (let a = c.pairs-test.false in let k = c.pairs.auto.t-end in omega arith) in
-    kept_row m.keys (model m) c.loop-s.s c.pairs.words.items (subst (λ t. KeptTo m.keys (model m) c.loop-s.s t c.pairs.words.items) end c.pairs.invariant.1)
+loop-s-preserved c = let a = c.pairs-test.false in let k = c.pairs.auto.t-end in kept_row (omega arith) c.pairs.invariant.1
 
 pub returns : goal.returns
 returns c =
-    let m = c.args.m.machine in
     let e = c.states.ensures in
     let l = c.if-states-le1.false in
-    let end : c.loop-s.s ≡ length (model m) = (let a = c.loop-s-test.false in let k = c.loop-s.auto.s-end in let z = c.states-s-end.ensures in omega arith) in
-    kept_all m.keys (model m) c.loop-s.words.items (subst (λ s. KeptTo m.keys (model m) s 0 c.loop-s.words.items) end c.loop-s.invariant)
-    ∙ sym (several_states m.keys (model m) (omega arith))
+    let a = c.loop-s-test.false in
+    let k = c.loop-s.auto.s-end in
+    let z = c.states-s-end.ensures in
+    kept_all (omega arith) c.loop-s.invariant ∙ sym (several_states c.args.m.machine.keys (model c.args.m.machine) (omega arith))

@@ -1,11 +1,7 @@
-use Rattle.std.proofs.Common.{ltb, sym, ap, ◌∙◌, arith}
+use Rattle.std.proofs.Common.{ltb, sym, ap, ◌∙◌}
 use Rattle.machine.specs.Run.{model}
-use Rattle.machine.proofs.Views.{few_states}
 use Rattle.cover.proofs.Entries.{levels_tell, agrees_same}
 use Rattle.cover.proofs.levels.Levels.agree_on.Goals as goal
-
-pub at-requires : goal.at-requires
-at-requires c = let f = few_states c.args.self.now.machine in let a = c.next.ensures.inside in let b = c.next-then-output.ensures.inside in (omega arith, omega arith)
 
 pub returns-then-output : goal.returns-then-output
 returns-then-output c =
