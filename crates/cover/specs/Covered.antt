@@ -1,4 +1,4 @@
--- The two lists of words that a cover by value holds. Assumes nothing: these are definitions.
+-- The two lists of words that a cover holds. Assumes nothing: these are definitions.
 use Rattle.std.specs.Prelude.{ℕ, List}
 use Rattle.cover.specs.Words.{words_of}
 use Rattle.cover.specs.declared.cover.Cover.{Cover}

@@ -17,6 +17,7 @@ fn is_among(word: &Word, words: &[Word]) -> bool
     words.contains(word)
 }
 
+// The words of all pairs of states; of a machine with one state, the empty word.
 pub(crate) fn separating(m: MinimalMachine) -> ArrayVec<Word, 120>
     ensures { words_of result.items ≡ separating_words (keys_of m.entry.machine) (model m.entry.machine) }
 {
@@ -29,6 +30,7 @@ pub(crate) fn separating(m: MinimalMachine) -> ArrayVec<Word, 120>
     for s in 0..m.machine.states() {
         'pairs: for t in 0..s {
             let word = levels.telling_word(t, s);
+            // Nested loops over states are left by their label.
             if is_among(&word, &words) {
                 continue 'pairs;
             }
