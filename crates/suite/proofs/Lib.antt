@@ -9,6 +9,7 @@ pub mod Members
 pub mod Once
 pub mod Passing
 pub mod Places
+pub mod Read
 pub mod Repeats
 pub mod TakenApart
 pub mod Tested

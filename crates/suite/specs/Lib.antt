@@ -4,6 +4,7 @@ pub mod Factors
 pub mod Fronts
 pub mod Kept
 pub mod Promises
+pub mod Reading
 pub mod Sinks
 pub mod Suite
 pub mod Written
