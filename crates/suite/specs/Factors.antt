@@ -1,14 +1,14 @@
 -- What the tests are made of, and which tests. Assumes nothing: these are definitions.
 use Rattle.std.specs.Prelude.{List}
 use Rattle.cover.specs.Covered.{separating_of}
+use Rattle.cover.specs.Words.{words_of}
 use Rattle.machine.specs.Machine.{Word}
 use Rattle.suite.specs.declared.factors.Factors.{Factors}
-use Rattle.suite.specs.Fronts.{fronts_of}
 use Rattle.suite.specs.Kept.{kept}
 
 -- the words in front
 abbrev pub fronts_in : Factors → List Word
-fronts_in f = fronts_of f.fronts
+fronts_in f = words_of f.fronts.items
 
 -- the words to end with
 abbrev pub ends_in : Factors → List Word

@@ -1,10 +1,10 @@
 pub mod Answer
 pub mod Enumeration
 pub mod Factors
-pub mod Fronts
 pub mod Kept
 pub mod Promises
 pub mod Reading
 pub mod Sinks
+pub mod Specified
 pub mod Suite
 pub mod Written

@@ -1,7 +1,7 @@
 -- Reading tests out of a row of numbers, whatever stands there. Assumes nothing: these are definitions.
 use Rattle.std.specs.Prelude.{ℕ, zero, suc, List, [], ◌∷◌, take, drop}
 use Rattle.machine.specs.Machine.{Word}
-use Rattle.suite.specs.declared.left.Tests.{Tests}
+use Rattle.suite.specs.declared.reading.Tests.{Tests}
 
 -- so many words, each behind its length; where the row ends before, those that are there, and of the last the keys that are there
 unfoldable pub words_from : ℕ → List ℕ → List Word

@@ -73,7 +73,7 @@ impl Factors {
         for between in 0..self.extra + 1 {
             let against = Against {
                 earlier,
-                ends: self.ends(),
+                ends: self.cover.separating.as_slice(),
                 own: own.len(),
                 between,
                 extra: self.extra,
@@ -86,7 +86,7 @@ impl Factors {
     pub(crate) fn each_test<S: Sink>(&self, sink: &mut S)
         ensures { Fed S.step (made_of self.now) sink.old sink.new }
     {
-        let fronts = self.fronts();
+        let fronts = self.fronts.as_slice();
         for (i, own) in fronts.iter().enumerate() {
             self.each_behind(&fronts[..i], own, sink);
         }

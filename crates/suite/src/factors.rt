@@ -1,8 +1,11 @@
 // What the tests are made of, by value.
 ghost use Rattle.std.specs.Prelude.{◌≤◌};
 
-use crate::fronts::Fronts;
-use cover::Cover;
+use arrayvec::ArrayVec;
+use cover::{Cover, Word};
+
+// Up to sixteen words that reach, and each of them with each of up to eight keys behind.
+pub type Fronts = ArrayVec<Word, 144>;
 
 // Words in front, keys, at most `extra` of which come behind a word in front, and the words of a cover that tell apart, to end with.
 #[derive(Drop)]

@@ -4,9 +4,7 @@
 mod apart;
 mod enumeration;
 mod factors;
-mod fronts;
 mod keyed;
-mod left;
 mod making;
 mod marks;
 mod promises;
@@ -18,12 +16,11 @@ mod specification;
 mod values;
 mod writing;
 
-pub use left::Tests;
 pub use promises::{
     each_test_once, equivalent_passes, few_tests, more_extra_more_tests, passing_is_equivalent,
     tests_read_back,
 };
-pub use reading::tests_in;
+pub use reading::{Tests, tests_in};
 pub use rows::test_at;
 pub use sink::Sink;
 pub use specification::Specification;

@@ -4,7 +4,12 @@ ghost use Rattle.machine.specs.Machine.{Word};
 ghost use Rattle.suite.specs.Reading.{tests_left, tests_of};
 ghost use Rattle.suite.specs.Written.{tests_row, words_in};
 
-use crate::left::Tests;
+// How many tests there are to be, and what is left of the row.
+#[derive(Clone, Copy)]
+pub struct Tests<'a> {
+    left: u64,
+    rest: &'a [u64],
+}
 
 impl<'a> Iterator for Tests<'a> {
     type Item = &'a [u64];

@@ -1,9 +1,8 @@
 // The tests for the machine in a row.
-ghost use Rattle.std.specs.Prelude.{◌≡◌, ◌≤◌, length};
-ghost use Rattle.machine.specs.Run.{model, keys_of};
+ghost use Rattle.std.specs.Prelude.{◌≤◌, length};
 ghost use Rattle.suite.specs.Answer.{Prepared, TestsAnswered};
 ghost use Rattle.suite.specs.Enumeration.{Fed};
-ghost use Rattle.suite.specs.Suite.{tests};
+ghost use Rattle.suite.specs.Specified.{tests_for};
 
 use crate::factors::Factors;
 use crate::rows::write_suite;
@@ -29,8 +28,8 @@ pub fn prepare(row: &[u64], extra: u64) -> Result<Specification<'_>, Refusal>
 impl Specification<'_> {
     // Hands every test to a sink: each once, in order.
     pub fn each_test<S: Sink>(self, sink: &mut S)
-        ensures fed { Fed S.step (tests (keys_of self.entry.machine.machine) self.entry.extra (model self.entry.machine.machine)) sink.old sink.new }
-        ensures few { length (tests (keys_of self.entry.machine.machine) self.entry.extra (model self.entry.machine.machine)) ≤ 10108800 }
+        ensures fed { Fed S.step (tests_for self.entry) sink.old sink.new }
+        ensures few { length (tests_for self.entry) ≤ 10108800 }
     {
         Factors::of(self).each_test(sink);
     }

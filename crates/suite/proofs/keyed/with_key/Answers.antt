@@ -2,20 +2,19 @@ use Rattle.std.proofs.Common.{◌≡◌, ◌<◌, ◌++◌, ◌∷◌, [], lengt
 use Rattle.std.proofs.lemmas.List.{append-nil, map-append}
 use Rattle.cover.specs.Words.{word_of, words_of}
 use Rattle.machine.specs.Words.{products, single_keys}
-use Rattle.suite.specs.Fronts.{fronts_of}
 use Rattle.suite.proofs.WithKey.{plain_more, key_behind, short_word, word_done, all_done, plain_done, place_low, place_next}
 use Rattle.suite.proofs.keyed.with_key.Goals as goal
 
 pub plain-preserved : goal.plain-preserved
 plain-preserved c =
-    let pushed = ap words_of c.push.ensures.items ∙ map-append word_of c.plain.fronts.items (c.copied.result ∷ []) ∙ ap (λ w. fronts_of c.plain.fronts ++ w ∷ []) c.copied.ensures in (
-      plain_more c.args.access.now c.plain.word-index c.word-item.result c.plain-test.true c.word-item.is (fronts_of c.plain.fronts) (fronts_of c.push.new.self) c.plain.invariant.0 pushed,
+    let pushed = ap words_of c.push.ensures.items ∙ map-append word_of c.plain.fronts.items (c.copied.result ∷ []) ∙ ap (λ w. words_of c.plain.fronts.items ++ w ∷ []) c.copied.ensures in (
+      plain_more c.args.access.now c.plain.word-index c.word-item.result c.plain-test.true c.word-item.is (words_of c.plain.fronts.items) (words_of c.push.new.self.items) c.plain.invariant.0 pushed,
       let n = c.plain.invariant.1 in let m = c.push.ensures.len in omega arith,
     )
 
 pub keyed-init : goal.keyed-init
 keyed-init c = (
-  plain_done c.args.access.now c.plain.word-index c.args.keys (fronts_of c.plain.fronts) c.plain-test.false c.plain.invariant.0,
+  plain_done c.args.access.now c.plain.word-index c.args.keys (words_of c.plain.fronts.items) c.plain-test.false c.plain.invariant.0,
   let n = c.plain.invariant.1 in let z = zero-mul c.args.keys in let a = c.plain-test.false in let b = c.plain.auto.word-index-end in omega arith,
 )
 
@@ -30,7 +29,7 @@ loop-key-preserved c =
     let ws = c.args.access.now in
     let pushed = ap words_of c.push-in-loop-key.ensures.items ∙ map-append word_of c.loop-key.fronts.items (c.followed.result ∷ []) in (
       key_behind ws c.keyed.word-index c.word-item-in-keyed.result c.keyed-test.true c.word-item-in-keyed.is (words_of ws ++ products (take c.keyed.word-index (words_of ws)) (single_keys c.args.keys)) c.loop-key.key
-          (fronts_of c.loop-key.fronts) (fronts_of c.push-in-loop-key.new.self) _ c.loop-key.invariant.0 pushed c.followed.ensures,
+          (words_of c.loop-key.fronts.items) (words_of c.push-in-loop-key.new.self.items) _ c.loop-key.invariant.0 pushed c.followed.ensures,
       let n = c.loop-key.invariant.1 in let m = c.push-in-loop-key.ensures.len in omega arith,
     )
 
@@ -43,9 +42,9 @@ push-requires-in-loop-key c =
 pub keyed-preserved : goal.keyed-preserved
 keyed-preserved c =
     let all : c.loop-key.key ≡ c.args.keys = let a = c.loop-key-test.false in let b = c.loop-key.auto.key-end in omega arith in (
-      word_done c.args.access.now c.keyed.word-index c.args.keys c.loop-key.key (fronts_of c.loop-key.fronts) c.keyed-test.true all c.loop-key.invariant.0,
+      word_done c.args.access.now c.keyed.word-index c.args.keys c.loop-key.key (words_of c.loop-key.fronts.items) c.keyed-test.true all c.loop-key.invariant.0,
       c.loop-key.invariant.1 ∙ place_next (length c.args.access.now) c.keyed.word-index c.args.keys c.loop-key.key all,
     )
 
 pub returns : goal.returns
-returns c = all_done c.args.access.now c.keyed.word-index c.args.keys (fronts_of c.keyed.fronts) c.keyed-test.false c.keyed.invariant.0
+returns c = all_done c.args.access.now c.keyed.word-index c.args.keys (words_of c.keyed.fronts.items) c.keyed-test.false c.keyed.invariant.0

@@ -24,7 +24,7 @@ loop-between-preserved g c =
     let f = c.loop-between.test.items in
     let j = c.loop-between.between in
     let more = between_more k e (ends_in c.args.self.now) earlier v f (length v) j c.loop-between.invariant.stays refl in
-    let same_ends = ap (λ (ws : List (List ℕ)). fresh_behind e ws earlier (length v) j f (products (of_length k j) ws)) c.ends.ensures in
+    let same_ends = ap (λ (ws : List (List ℕ)). fresh_behind e ws earlier (length v) j f (products (of_length k j) ws)) (ap words_of c.as_slice.ensures.value) in
     record {
       fed = fed_then g.S.Sink.step _ _ _ c.args.sink.now c.loop-between.sink c.each_between.new.sink more c.loop-between.invariant.fed
           (fed_same g.S.Sink.step _ _ c.loop-between.sink c.each_between.new.sink same_ends c.each_between.ensures.fed);

@@ -14,14 +14,14 @@ with_key-requires c =
     let cover = c.of-cover.result in
     let makes = cover_makes s.machine.machine s.extra c.keys-keys.result cover c.keys-keys.ensures c.of-cover.ensures.access c.of-cover.ensures.separating (known_minimal s.machine) s.few_extra in
     let few = makes.few in
-    let same = ap length c.deref.ensures.0 in
+    let same = ap length c.as_slice.ensures.value in
     let many = length-map cover.access.items word_of in
-    (omega arith, (makes.few_keys, rw c.deref.ensures.0 makes.short))
+    (omega arith, (makes.few_keys, rw c.as_slice.ensures.value makes.short))
 
 pub returns-clause-made : goal.returns-clause-made
 returns-clause-made c =
     let s = c.args.specification in
-    ap (λ fronts. kept c.keys-keys.result s.extra fronts (separating_of c.of-cover.result)) (c.with_key.ensures ∙ ap (λ ws. with_key c.keys-keys.result (words_of ws)) c.deref.ensures.0)
+    ap (λ fronts. kept c.keys-keys.result s.extra fronts (separating_of c.of-cover.result)) (c.with_key.ensures ∙ ap (λ ws. with_key c.keys-keys.result (words_of ws)) c.as_slice.ensures.value)
     ∙ cover_made s.machine.machine s.extra c.keys-keys.result c.of-cover.result c.keys-keys.ensures c.of-cover.ensures.access c.of-cover.ensures.separating (known_minimal s.machine) s.few_extra
 
 pub returns-clause-few : goal.returns-clause-few
