@@ -29,6 +29,7 @@ unfolding up_to words_up_to
 length_up_to k zero = refl
 length_up_to k (suc e) = length-append (up_to k e) (of_length k (suc e)) ∙ omega (arith, length_up_to k e, length_of_length k (suc e))
 
+-- keeping each word once makes a list no longer
 length_once_from : (seen ws : List Word) → length (once_from seen ws) ≤ length ws
 unfolding once_from
 length_once_from seen [] = omega arith

@@ -15,9 +15,11 @@ same_tests true b f g = sym (f refl)
 same_tests false true f g = g refl
 same_tests false false f g = refl
 
+-- a word that does not stand in a list is not listed
 pub not_in : {w : Word} (ws : List Word) → (In w ws → ⊥) → listed w ws ≡ false
 not_in {w} ws h = elim (cases_Bool (listed w ws)) [ inl y ↦ absurd (h (listed_in ws y)) | inr n ↦ n ]
 
+-- a word of two lists, one behind the other, is a word of one of them
 pub listed_append : (w : Word) (us vs : List Word) → listed w (us ++ vs) ≡ (listed w us || listed w vs)
 unfolding listed
 listed_append w [] vs = refl
@@ -100,6 +102,7 @@ different_once_from seen (w ∷ ws) = elim (cases_Bool (listed w seen)) [
         weaker [] a = tt
         weaker (c ∷ cs) a = ((or_parts (same c w) (listed c seen) a.0).1, weaker cs a.1)
 
+-- so for all the words of a list, each kept once
 pub different_once : (ws : List Word) → Different (once ws)
 different_once ws = (different_once_from [] ws).0
 
@@ -136,6 +139,7 @@ different_products n (u ∷ us) ws l a b =
         let front : u ≡ s.front = sym (take_at u r.0 n l.0) ∙ ap (take n) (r.2 ∙ s.whole) ∙ take_at s.front s.behind n (long us l.1 s.front_in) in
         both_ways (listed u us) a.0 (in_listed us (Memᴰ.cast front s.front_in))
 
+-- no word of one key stands twice among those of a range of keys
 different_single : (a n : ℕ) → Different (map (λ x. x ∷ []) (range_with_len a n))
 different_single a zero = tt
 different_single a (suc n) = (not_in (map (λ x. x ∷ []) (range_with_len (a + 1) n)) (later (a + 1) n (omega arith)), different_single (a + 1) n)
@@ -144,6 +148,7 @@ different_single a (suc n) = (not_in (map (λ x. x ∷ []) (range_with_len (a + 
     later b zero h m = Memᴰ.not-nil m
     later b (suc j) h m = elim (Memᴰ.cases_cons m) [ inl e ↦ let z : a ≡ b = cc in omega arith | inr t ↦ later (b + 1) j (omega arith) t ]
 
+-- no word stands twice among all words of n keys
 pub different_of_length : (k n : ℕ) → Different (of_length k n)
 unfolding of_length listed
 different_of_length k zero = (refl, tt)

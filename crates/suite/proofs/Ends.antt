@@ -13,9 +13,11 @@ use Rattle.suite.proofs.Repeats.{repeats_found}
 
 -- a beginning f, and behind it the end x
 module _ (a : Against) (f : Word) (x : ArrayVec ℕ) (full : length f ≡ a.own + a.between) (short : length (word_of x) ≤ 16) where
+  -- the words that a test may end with
   abbrev ends : List Word
   ends = words_of a.ends.now
 
+  -- the words in front that come before this one
   abbrev earlier : List Word
   earlier = words_of a.earlier.now
 

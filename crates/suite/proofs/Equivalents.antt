@@ -15,6 +15,7 @@ all_every : {P : ℕ → Type 0} → ((x : ℕ) → P x) → (xs : List ℕ) →
 all_every h [] = tt
 all_every h (x ∷ xs) = (h x, all_every h xs)
 
+-- what holds of each word of each of some lists holds of all the lists joined
 all_joined : (P : Word → Type 0) (f : ℕ → List Word) → ((x : ℕ) → AllByRecursion P (f x)) → (xs : List ℕ) → AllByRecursion P (flat_map f xs)
 all_joined P f h [] = tt
 all_joined P f h (x ∷ xs) = All-append P (f x) (flat_map f xs) (h x) (all_joined P f h xs)
@@ -25,6 +26,7 @@ unfolding first_reaching
 first_reaching_keys k m s [] h = tt
 first_reaching_keys k m s (w ∷ ws) h = cond_both (eqb (after m 0 w) s) w (first_reaching m s ws) (Keys k) (λ _. h.0) (λ _. first_reaching_keys k m s ws h.1)
 
+-- the first of some words of keys that tells two states apart is a word of keys
 first_telling_keys : (k : ℕ) (m : Machine) (t s : ℕ) (ws : List Word) → AllByRecursion (Keys k) ws → Keys k (first_telling m t s ws)
 unfolding first_telling
 first_telling_keys k m t s [] h = tt

@@ -7,13 +7,11 @@ use Rattle.std.proofs.ByRecursion.{All-append}
 use Rattle.std.proofs.lemmas.List.{append-nil}
 use Rattle.std.proofs.lemmas.Bool.{cases_Bool, cases_lt, and_parts, and_from, or_cases, or_left, or_right, eq-eqb, eqb-true, false≢true}
 use Rattle.machine.specs.Machine.{Word, Keys}
+pub use Rattle.machine.specs.Words.{In}
 use Rattle.machine.specs.Words.{each_behind, products, single_keys, of_length, up_to, same, listed, once_from, once}
 use Rattle.suite.specs.Suite.{with_key, candidates, suite}
 
--- w stands in ws
-abbrev pub In : Word → List Word → Type 0
-In w ws = Memᴰ w ws
-
+-- what stands in a list is contained at a place of it
 pub in_has : {w : Word} (ws : List Word) → In w ws → Has ws w
 in_has [] m = absurd (Memᴰ.not-nil m)
 in_has {w} (v ∷ ws) m =
@@ -22,6 +20,7 @@ in_has {w} (v ∷ ws) m =
       | inr t ↦ let h = in_has ws t in (suc h.0, (let l = h.1 in omega arith), h.2)
     ]
 
+-- and the other way round
 pub has_in : {w : Word} (ws : List Word) → Has ws w → In w ws
 has_in [] h = absurd (let l = h.1 in omega arith)
 has_in {w} (v ∷ ws) h = go h.0 h.1 h.2 (λ k l a. has_in ws (k, l, a))
@@ -36,15 +35,17 @@ in_get_or [] i h = absurd (omega arith)
 in_get_or (v ∷ ws) zero h = Memᴰ.head refl
 in_get_or (v ∷ ws) (suc i) h = Memᴰ.tail (in_get_or ws i (omega arith))
 
--- what holds of each holds of one that stands there, and the other way round
+-- what holds of each word of a list holds of one that stands there
 pub all_in : (P : Word → Type 0) {w : Word} (ws : List Word) → AllByRecursion P ws → In w ws → P w
 all_in P [] a m = absurd (Memᴰ.not-nil m)
 all_in P (v ∷ ws) a m = elim (Memᴰ.cases_cons m) [ inl e ↦ subst P (sym e) a.0 | inr t ↦ all_in P ws a.1 t ]
 
+-- if it holds of each word that stands in a list, it holds of all of them
 pub in_all : (P : Word → Type 0) (ws : List Word) → ((w : Word) → In w ws → P w) → AllByRecursion P ws
 in_all P [] h = tt
 in_all P (v ∷ ws) h = (h v (Memᴰ.head refl), in_all P ws (λ w m. h w (Memᴰ.tail m)))
 
+-- a word of one list and a word of another behind it make a word of their product
 pub in_products : {v w : Word} {vs ws : List Word} → In v vs → In w ws → In (v ++ w) (products vs ws)
 in_products {v} {w} {ws = ws} (Memᴰ.head {x = x} {xs = xs} e) b =
     Memᴰ.append_left (products xs ws) (Memᴰ.cast (ap (λ z. z ++ w) e) (Memᴰ.map (λ z. x ++ z) b))
@@ -58,6 +59,7 @@ pub record Parts (vs ws : List Word) (c : Word) : Type 0 where
   pub behind_in : In behind ws
   pub whole : c ≡ front ++ behind
 
+-- and every word of a product is made so
 pub of_products : {c : Word} (vs ws : List Word) → In c (products vs ws) → Parts vs ws c
 of_products [] ws m = absurd (Memᴰ.not-nil m)
 of_products {c} (v ∷ vs) ws m =
@@ -66,25 +68,31 @@ of_products {c} (v ∷ vs) ws m =
       | inr b ↦ let r = of_products vs ws b in record { front = r.front; behind = r.behind; front_in = Memᴰ.tail r.front_in; behind_in = r.behind_in; whole = r.whole }
     ]
 
+-- a number from a on, and below a + n, stands among the n numbers from a on
 in_counting : (a n x : ℕ) → a ≤ x → x < a + n → Memᴰ x (range_with_len a n)
 in_counting a zero x low high = absurd (omega arith)
 in_counting a (suc n) x low high = elim (cases_lt a x) [ inl l ↦ Memᴰ.tail (in_counting (a + 1) n x (omega arith) (omega arith)) | inr g ↦ Memᴰ.head (omega arith) ]
 
+-- and what stands among them is below a + n
 of_counting : {x : ℕ} (a n : ℕ) → Memᴰ x (range_with_len a n) → x < a + n
 of_counting a zero m = absurd (Memᴰ.not-nil m)
 of_counting a (suc n) m = elim (Memᴰ.cases_cons m) [ inl e ↦ omega arith | inr t ↦ let h = of_counting (a + 1) n t in omega arith ]
 
+-- each key makes a word of one key
 pub in_single : (k x : ℕ) → x < k → In (x ∷ []) (single_keys k)
 in_single k x h = Memᴰ.map (λ y. y ∷ []) (in_counting 0 k x (omega arith) (omega arith))
 
+-- and every word of one key is made so
 pub of_single : {w : Word} (k : ℕ) → In w (single_keys k) → (x : ℕ) × (x < k) × (w ≡ x ∷ [])
 of_single k m = let r = Memᴰ.of_map (λ (x : ℕ). x ∷ []) (range_with_len 0 k) m in (r.0, (let h = of_counting 0 k r.1 in omega arith), sym r.2)
 
+-- a word of keys is among all words that have as many keys as it has
 pub in_of_length : (k : ℕ) (u : Word) → Keys k u → In u (of_length k (length u))
 unfolding of_length
 in_of_length k [] h = Memᴰ.head refl
 in_of_length k (x ∷ u) h = in_products (in_single k x h.0) (in_of_length k u h.1)
 
+-- and what is among all words of n keys is a word of n keys
 pub of_of_length : (k n : ℕ) {u : Word} → In u (of_length k n) → Keys k u × (length u ≡ n)
 unfolding of_length
 of_of_length k zero m = let e = Memᴰ.eq_of_singleton m in rw e (tt, refl)
@@ -107,6 +115,7 @@ in_up_to k (suc n) u h l =
       | inr s ↦ Memᴰ.append_left (of_length k (suc n)) (in_up_to k n u h s)
     ]
 
+-- and what is among all words of at most n keys is a word of at most n keys
 pub of_up_to : {u : Word} (k n : ℕ) → In u (up_to k n) → Keys k u × (length u ≤ n)
 unfolding up_to
 of_up_to k zero m = let e = Memᴰ.eq_of_singleton m in rw e (tt, omega arith)
@@ -116,11 +125,13 @@ of_up_to k (suc n) m =
       | inr b ↦ let r = of_of_length k (suc n) b in (r.0, let l = r.1 in omega arith)
     ]
 
+-- a word is the same as itself
 same_reflexive : (u : Word) → same u u ≡ true
 unfolding same
 same_reflexive [] = refl
 same_reflexive (x ∷ u) = and_from (eqb x x) (same u u) (eq-eqb x x refl) (same_reflexive u)
 
+-- words that are found to be the same are equal
 pub same_true : (u v : Word) → same u v ≡ true → u ≡ v
 unfolding same
 same_true [] [] h = refl
@@ -128,20 +139,23 @@ same_true [] (y ∷ v) h = absurd (false≢true h)
 same_true (x ∷ u) [] h = absurd (false≢true h)
 same_true (x ∷ u) (y ∷ v) h = let p = and_parts (eqb x y) (same u v) h in let e = eqb-true x y p.0 in let r = same_true u v p.1 in cc
 
+-- and equal words are found to be the same
 pub eq_same : (u v : Word) → u ≡ v → same u v ≡ true
 eq_same u v e = rw e (same_reflexive v)
 
+-- a word that is listed stands in the list
 pub listed_in : {w : Word} (ws : List Word) → listed w ws ≡ true → In w ws
 unfolding listed
 listed_in [] h = absurd (false≢true h)
 listed_in {w} (v ∷ ws) h = elim (or_cases (same w v) (listed w ws) h) [ inl a ↦ Memᴰ.head (same_true w v a) | inr b ↦ Memᴰ.tail (listed_in ws b) ]
 
+-- and the other way round
 pub in_listed : {w : Word} (ws : List Word) → In w ws → listed w ws ≡ true
 unfolding listed
 in_listed [] m = absurd (Memᴰ.not-nil m)
 in_listed {w} (v ∷ ws) m = elim (Memᴰ.cases_cons m) [ inl e ↦ or_left (same w v) (listed w ws) (eq_same w v e) | inr t ↦ or_right (same w v) (listed w ws) (in_listed ws t) ]
 
--- a list with each word once has exactly the words of the list
+-- a word of a list was seen before, or it is kept
 pub in_once_from : {w : Word} (seen ws : List Word) → In w ws → In w seen ⊎ In w (once_from seen ws)
 unfolding once_from
 in_once_from seen [] m = absurd (Memᴰ.not-nil m)
@@ -161,6 +175,7 @@ in_once_from {w} seen (v ∷ ws) m = go (cases_Bool (listed v seen)) (Memᴰ.cas
     go (inr n) (inl e) below new = rw n (inr (Memᴰ.head e))
     go (inr n) (inr t) below new = rw n (old (new t))
 
+-- what is kept once stood in the list
 pub of_once_from : {w : Word} (seen ws : List Word) → In w (once_from seen ws) → In w ws
 unfolding once_from
 of_once_from seen [] m = m
@@ -171,9 +186,11 @@ of_once_from {w} seen (v ∷ ws) m = go (cases_Bool (listed v seen)) m (of_once_
     go (inl y) m below new = Memᴰ.tail (below (rw y at m))
     go (inr n) m below new = elim (Memᴰ.cases_cons (rw n at m)) [ inl e ↦ Memᴰ.head e | inr t ↦ Memᴰ.tail (new t) ]
 
+-- every word of a list is kept
 pub in_once : {w : Word} (ws : List Word) → In w ws → In w (once ws)
 in_once ws m = elim (in_once_from [] ws m) [ inl a ↦ absurd (Memᴰ.not-nil a) | inr b ↦ b ]
 
+-- and no other word is
 pub of_once : {w : Word} (ws : List Word) → In w (once ws) → In w ws
 of_once ws m = of_once_from [] ws m
 

@@ -1,6 +1,7 @@
 -- Leaving out what can be taken apart in an earlier way keeps each test once. Assumes nothing.
-use Rattle.std.proofs.Common.{◌≡◌, ℕ, zero, suc, Bool, true, false, not, ◌||◌, List, [], ◌∷◌, ◌++◌, length, sym, refl, ap, ◌∙◌}
+use Rattle.std.proofs.Common.{◌≡◌, ℕ, zero, suc, not, ◌||◌, List, [], ◌∷◌, ◌++◌, length, sym, refl, ap, ◌∙◌}
 use Rattle.std.specs.List.{AllByRecursion}
+use Rattle.std.proofs.Math.Bool.{or_comm}
 use Rattle.std.proofs.ByRecursion.{All-weaker}
 use Rattle.std.proofs.lemmas.List.{map-append}
 use Rattle.machine.specs.Machine.{Word, Keys}
@@ -11,12 +12,6 @@ use Rattle.suite.proofs.Any.{any_push}
 use Rattle.suite.proofs.Different.{once_from_append, once_from_different, listed_append, kept_by_same, different_products, different_behind, different_of_length}
 use Rattle.suite.proofs.Members.{in_all, of_of_length, behind_keys, products_keys, of_length_keys, with_key_keys}
 use Rattle.suite.proofs.TakenApart.{below, up_to_below, products_append, products_behind, found}
-
-or_swap : (a b : Bool) → (a || b) ≡ (b || a)
-or_swap true true = refl
-or_swap true false = refl
-or_swap false true = refl
-or_swap false false = refl
 
 module _ (k e : ℕ) (ws : List Word) (ws_keys : AllByRecursion (Keys k) ws) (different : Different ws) where
   -- the words seen are those that are made with an earlier word in front
@@ -40,7 +35,7 @@ module _ (k e : ℕ) (ws : List Word) (ws_keys : AllByRecursion (Keys k) ws) (di
       split = ap (λ z. products z ws) (map-append (λ w. v ++ w) (below k n) (of_length k n)) ∙ products_append (each_behind v (below k n)) (each_behind v (of_length k n)) ws ∙ ap (λ z. before ++ z) (products_behind v (of_length k n) ws)
 
       same_tests : (c : Word) → Keys k c → not (listed c (before ++ seen)) ≡ not (repeats e ws earlier v n c)
-      same_tests c keys = ap not (listed_append c before seen ∙ ap (λ b. b || listed c seen) (found k n ws v c keys) ∙ ap (λ b. parts n ws v c || b) (s c keys) ∙ or_swap (parts n ws v c) (some_parts (suc e) ws earlier c))
+      same_tests c keys = ap not (listed_append c before seen ∙ ap (λ b. b || listed c seen) (found k n ws v c keys) ∙ ap (λ b. parts n ws v c || b) (s c keys) ∙ or_comm (parts n ws v c) (some_parts (suc e) ws earlier c))
 
       last : once_from (before ++ seen) block ≡ without (repeats e ws earlier v n) block
       last =
@@ -66,7 +61,7 @@ module _ (k e : ℕ) (ws : List Word) (ws_keys : AllByRecursion (Keys k) ws) (di
       split = products_append (each_behind v (up_to k e)) (products vs (up_to k e)) ws ∙ ap (λ z. products (each_behind v z) ws ++ rest) (up_to_below k e)
 
       more : Seen (block ++ seen) (earlier ++ v ∷ [])
-      more c keys = listed_append c block seen ∙ ap (λ b. b || listed c seen) (found k (suc e) ws v c keys) ∙ ap (λ b. parts (suc e) ws v c || b) (s c keys) ∙ or_swap (parts (suc e) ws v c) (some_parts (suc e) ws earlier c) ∙ sym (any_push (λ p. parts (suc e) ws p c) earlier v)
+      more c keys = listed_append c block seen ∙ ap (λ b. b || listed c seen) (found k (suc e) ws v c keys) ∙ ap (λ b. parts (suc e) ws v c || b) (s c keys) ∙ or_comm (parts (suc e) ws v c) (some_parts (suc e) ws earlier c) ∙ sym (any_push (λ p. parts (suc e) ws p c) earlier v)
 
 -- each test once, without looking at those before
 pub kept_once : (k e : ℕ) (vs ws : List Word) → AllByRecursion (Keys k) vs → AllByRecursion (Keys k) ws → Different ws → once (products (products vs (up_to k e)) ws) ≡ kept k e vs ws

@@ -56,6 +56,7 @@ marks_from : (n : ℕ) (f : Word) (m : ℕ) (p : Word) → p ≡ take (length p)
 unfolding marks
 marks_from n f m p e l g = and_from (begins p f) (within (length p) n m) (begins_from p f e) (within_from (length p) n m l g)
 
+-- a longer word that begins with f goes on from it
 longer_from : (f p : Word) → length f < length p → f ≡ take (length f) p → longer f p ≡ true
 unfolding longer
 longer_from f p l e = and_from (ltb (length f) (length p)) (begins f p) (lt-ltb (length f) (length p) l) (begins_from f p e)
@@ -77,6 +78,7 @@ module _ (e j own : ℕ) (ws earlier : List Word) (f w : Word) (at : List Bool) 
     (inside : own ≤ length f) (short : length (f ++ w) < 36)
     (places : (m : ℕ) → m < 36 → get_or at m false ≡ marked e earlier own j f m)
     (long : l ≡ list_any (longer f) earlier) where
+  -- the test: the beginning f and the end w
   abbrev c : Word
   c = f ++ w
 

@@ -3,6 +3,7 @@ use Rattle.std.proofs.Common.{◌≡◌, ℕ, zero, suc, ◌+◌, ◌-◌, ◌<�
 use mathlib.Core.List.Memᴰ
 use Rattle.std.proofs.ByRecursion.{All-take, All-drop}
 use Rattle.std.proofs.lemmas.List.{take_at, drop_at, drop-drop, take-append-drop, map-append}
+use Rattle.std.proofs.lemmas.Grind.{flat_map-append}
 use Rattle.std.proofs.lemmas.Bool.{and_parts, and_from, leb-true, le-leb, ltb-true, lt-ltb}
 use Rattle.machine.specs.Machine.{Word, Keys}
 use Rattle.machine.specs.Words.{each_behind, products, of_length, up_to, same, listed}
@@ -35,8 +36,7 @@ of_below k (suc n) {u} m = let r = of_up_to k n (subst (λ z. In u z) (sym (up_t
 
 -- two lists in front: what is made with the first, then what is made with the second
 pub products_append : (us vs ws : List Word) → products (us ++ vs) ws ≡ products us ws ++ products vs ws
-products_append [] vs ws = refl
-products_append (u ∷ us) vs ws = rw (products_append us vs ws) (sym (append_assoc (each_behind u ws) (products us ws) (products vs ws)))
+products_append us vs ws = flat_map-append (λ u. each_behind u ws) us vs
 
 -- putting two words in front is putting the second in front, then the first
 pub each_behind_append : (u v : Word) (ws : List Word) → each_behind (u ++ v) ws ≡ each_behind u (each_behind v ws)

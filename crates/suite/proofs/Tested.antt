@@ -29,6 +29,7 @@ use Rattle.suite.proofs.Once.{suite_kept}
 use Rattle.suite.proofs.Passing.{passing_suite_is_equivalent}
 use Rattle.suite.proofs.TestsRow.{tests_read_back}
 
+-- no separating word stands twice
 different_separating : (k : ℕ) (m : Machine) → Different (separating_words k m)
 unfolding separating_words listed
 different_separating k m = cond_both (leb (length m) 1) ([] ∷ []) (once (telling_words k m)) Different (λ e. (refl, tt)) (λ e. different_once (telling_words k m))

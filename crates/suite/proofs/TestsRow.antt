@@ -16,6 +16,7 @@ unfolding room_for
 tests_less [] = omega arith
 tests_less (w ∷ ts) = omega (arith, tests_less ts)
 
+-- words one behind the other take as many numbers as there is room made for them
 pub length_words_out : (ts : List Word) → length (words_out ts) ≡ room_for ts
 unfolding words_out room_for
 length_words_out [] = refl
