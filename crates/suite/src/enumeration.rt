@@ -44,19 +44,19 @@ impl Against<'_> {
     }
 
     // Hands on every word of `left` keys behind the beginning of a test, and every end behind that.
-    fn each_between<S: Sink>(self, test: &mut Candidate, keys: u64, left: usize, sink: &mut S)
+    fn each_between<S: Sink>(self, test: &mut Candidate, left: usize, sink: &mut S)
         requires room { array_vec_len test.old + left ≡ self.own + self.between }
         requires behind { self.own ≤ array_vec_len test.old }
-        ensures fed { Fed S.step (fresh_of self.entry test.old.items (products (of_length keys left) (words_of self.entry.ends.now))) sink.old sink.new }
+        ensures fed { Fed S.step (fresh_of self.entry test.old.items (products (of_length self.entry.keys left) (words_of self.entry.ends.now))) sink.old sink.new }
         ensures stays { test.new.items ≡ test.old.items }
     {
         if left == 0 {
             self.each_end(test, sink);
             return;
         }
-        for key in 0..keys {
+        for key in 0..self.keys {
             test.push(key);
-            self.each_between(test, keys, left - 1, sink);
+            self.each_between(test, left - 1, sink);
             test.pop();
         }
     }
@@ -74,11 +74,12 @@ impl Factors {
             let against = Against {
                 earlier,
                 ends: self.cover.separating.as_slice(),
+                keys: self.keys,
                 own: own.len(),
                 between,
                 extra: self.extra,
             };
-            against.each_between(&mut test, self.keys, between, sink);
+            against.each_between(&mut test, between, sink);
         }
     }
 

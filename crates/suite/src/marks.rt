@@ -1,5 +1,5 @@
 // Where an end must start in a word that has come up before.
-ghost use Rattle.std.specs.Prelude.{◌≡◌, ℕ, ◌+◌, ◌<◌, ◌≤◌, false, ◌||◌, length, slice_index_or};
+ghost use Rattle.std.specs.Prelude.{◌≡◌, ℕ, ◌+◌, ◌<◌, ◌≤◌, false, ◌||◌, slice_index_or};
 ghost use Rattle.cover.specs.Words.{words_of};
 ghost use Rattle.suite.specs.Enumeration.{within, marked};
 
@@ -9,8 +9,7 @@ use crate::values::{Against, Marks};
 // Marks `n` places, from `from` on.
 fn mark(marks: &mut Marks, from: usize, n: usize)
     requires { from + n ≤ 36 }
-    ensures long { length marks.new ≡ 36 }
-    ensures places { (m : ℕ) → m < 36 → slice_index_or marks.new m false ≡ (slice_index_or marks.old m false || within from n m) }
+    ensures { (m : ℕ) → m < 36 → slice_index_or marks.new m false ≡ (slice_index_or marks.old m false || within from n m) }
 {
     marks[from..from + n].fill(true);
 }

@@ -5,7 +5,7 @@ ghost use Rattle.suite.specs.Reading.{tests_left, tests_of};
 ghost use Rattle.suite.specs.Written.{tests_row, words_in};
 
 // How many tests there are to be, and what is left of the row.
-#[derive(Clone, Copy)]
+#[derive(Drop)]
 pub struct Tests<'a> {
     left: u64,
     rest: &'a [u64],

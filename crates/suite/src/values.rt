@@ -10,12 +10,13 @@ pub type Candidate = ArrayVec<u64, 35>;
 // Which places of a candidate are marked.
 pub type Marks = [bool; 36];
 
-// What a candidate is measured against: the words in front that come before its own, the words that it may end with, how many keys its
-// own word in front has, how many more stand behind that, and how many may.
+// What a candidate is measured against: the words in front that come before its own, the words that it may end with, how many keys there are,
+// how many its own word in front has, how many more stand behind that, and how many may.
 #[derive(Clone, Copy)]
 pub struct Against<'a> {
     pub earlier: &'a [Word],
     pub ends: &'a [Word],
+    pub keys: u64,
     pub own: usize,
     pub between: usize,
     pub extra: usize,

@@ -10,7 +10,7 @@ use Rattle.suite.proofs.values.Against.+each_between.Goals as goal
 pub returns-then-left-eq0-clause-fed : goal.returns-then-left-eq0-clause-fed
 returns-then-left-eq0-clause-fed g t c =
     let a = c.args.self in
-    fed_same g.S.Sink.step _ _ _ _ (ap (fresh_of a c.args.test.now.items) (no_keys c.args.keys c.args.left (words_of a.ends.now) c.if-left-eq0.true)) c.each_end.ensures.fed
+    fed_same g.S.Sink.step _ _ _ _ (ap (fresh_of a c.args.test.now.items) (no_keys c.args.self.keys c.args.left (words_of a.ends.now) c.if-left-eq0.true)) c.each_end.ensures.fed
 
 pub loop-key-init : goal.loop-key-init
 unfolding fresh_behind
@@ -21,7 +21,7 @@ loop-key-preserved g t c =
     let a = c.args.self in
     let f = c.args.test.now.items in
     let ws = words_of a.ends.now in
-    let us = of_length c.args.keys (c.args.left - 1) in
+    let us = of_length c.args.self.keys (c.args.left - 1) in
     let x = c.loop-key.key in
     let step = g.S.Sink.step in
     let longer : c.push.new.self.items ≡ f ++ x ∷ [] = c.push.ensures.items ∙ ap (λ z. z ++ x ∷ []) c.loop-key.invariant.stays in
@@ -36,5 +36,5 @@ loop-key-preserved g t c =
 pub returns-clause-fed : goal.returns-clause-fed
 returns-clause-fed g t c =
     let a = c.args.self in
-    let all : c.loop-key.key ≡ c.args.keys = let p = c.loop-key-test.false in let q = c.loop-key.auto.key-end in omega arith in
-    fed_same g.S.Sink.step _ _ _ _ (ap (fresh_of a c.args.test.now.items) (first_keys c.args.keys c.args.left c.loop-key.key (words_of a.ends.now) c.if-left-eq0.false all)) c.loop-key.invariant.fed
+    let all : c.loop-key.key ≡ c.args.self.keys = let p = c.loop-key-test.false in let q = c.loop-key.auto.key-end in omega arith in
+    fed_same g.S.Sink.step _ _ _ _ (ap (fresh_of a c.args.test.now.items) (first_keys c.args.self.keys c.args.left c.loop-key.key (words_of a.ends.now) c.if-left-eq0.false all)) c.loop-key.invariant.fed

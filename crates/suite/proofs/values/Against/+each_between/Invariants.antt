@@ -10,6 +10,6 @@ decreases-each_between g l = l.left
 abbrev pub invariant-loop-key : goal.invariant-loop-key
 invariant-loop-key g l =
     record {
-      fed : Fed g.S.Sink.step (fresh_of l.self l.initial.test.items (products (products (single_keys l.key) (of_length l.keys (l.left - 1))) (words_of l.self.ends.now))) l.initial.sink l.sink;
+      fed : Fed g.S.Sink.step (fresh_of l.self l.initial.test.items (products (products (single_keys l.key) (of_length l.self.keys (l.left - 1))) (words_of l.self.ends.now))) l.initial.sink l.sink;
       stays : l.test.items ≡ l.initial.test.items;
     }

@@ -6,7 +6,7 @@ use Rattle.suite.proofs.values.Against.marks_behind.Goals as goal
 use Rattle.suite.proofs.values.Against.marks_behind.Goals.{then-begins, else-begins}
 
 pub loop-word-init : goal.loop-word-init
-loop-word-init c m h = marks_none c.args.self.own c.args.self.between m _ h (c.mark.ensures.places m h)
+loop-word-init c m h = marks_none c.args.self.own c.args.self.between m _ h (c.mark.ensures m h)
 
 pub loop-word-preserved : goal.loop-word-preserved
 loop-word-preserved c =
@@ -17,7 +17,7 @@ loop-word-preserved c =
     let x = c.word-item.result in
     let inside = c.loop-word-test.true in
     elim c.if-begins.branch [
-      | then-begins w ↦ rw w.marks-is (λ m h. marks_more a.extra f ws i a.own a.between x inside c.word-item.is m _ _ (c.loop-word.invariant m h) (sym c.begins.ensures ∙ w.if-begins.true) (rw w.len.ensures.value at (w.mark-then-begins.ensures.places m h)))
+      | then-begins w ↦ rw w.marks-is (λ m h. marks_more a.extra f ws i a.own a.between x inside c.word-item.is m _ _ (c.loop-word.invariant m h) (sym c.begins.ensures ∙ w.if-begins.true) (rw w.len.ensures.value at (w.mark-then-begins.ensures m h)))
       | else-begins w ↦ rw w.marks-is (λ m h. marks_same a.extra f ws i a.own a.between x inside c.word-item.is m _ false (c.loop-word.invariant m h) (sym c.begins.ensures ∙ w.if-begins.false))
     ]
 
