@@ -34,6 +34,7 @@ pub fn read_input<'a>(bytes: &'a [u8], row: &[u64]) -> Result<Input<'a>, Refusal
     let Some([extra, rest @ ..]) = bytes.get(place..) else {
         return Err(Refusal::Malformed(row.len() as u64));
     };
+    // A bad move is told only if the extra byte is there.
     Machine::read(row)?;
     Ok(Input {
         shape,

@@ -6,19 +6,16 @@ use std::alloc::{AllocError, Global};
 use std::io::Read;
 use verdict::Verdict;
 
-// The verdict on what was shown; bytes left over are something behind the last test, where what was shown is not cut short before them.
-fn verdict_on(
-    row: &[u64],
-    extra: u64,
-    shown: &mut Vec<u64>,
-    left_over: bool,
-) -> Result<Verdict, Failure> {
-    let verdict = verdict::judge(row, extra, &*shown)?;
-    if !left_over {
+// The verdict on what was shown, in bytes.
+fn verdict_on(heap: Global, row: &[u64], extra: u64, bytes: &[u8]) -> Result<Verdict, Failure> {
+    let mut shown = formats::numbers(heap, bytes)?;
+    let verdict = verdict::judge(row, extra, &shown)?;
+    if bytes.len() % 4 == 0 {
         return Ok(verdict);
     }
+    // Where nothing is cut short, bytes left over are something behind the last test.
     shown.push(0).map_err(AllocError::from)?;
-    Ok(verdict::judge(row, extra, &*shown)?)
+    Ok(verdict::judge(row, extra, &shown)?)
 }
 
 // The keys of the test of that number.
@@ -58,9 +55,7 @@ fn answer(heap: Global, bytes: &[u8]) -> Result<String, Failure> {
     let row = formats::numbers(heap, bytes)?;
     let input = formats::read_input(bytes, &row)?;
     let extra = u64::from(input.extra);
-    let mut shown = formats::numbers(heap, input.rest)?;
-    let left_over = input.rest.len() % 4 != 0;
-    let verdict = verdict_on(&row, extra, &mut shown, left_over)?;
+    let verdict = verdict_on(heap, &row, extra, input.rest)?;
     verdict_text(heap, &row, extra, verdict)
 }
 

@@ -14,9 +14,11 @@ refused : (row : List ℕ) (e : ℕ) (before : List ℕ) (f : Refusal) → Untes
 refused row e before f (inl u) = inl u
 refused row e before f (inr c) = inr (c.testable, ap (λ (r : Reason). r.number) c.reason_is)
 
+-- when the room is asked for
 pub returns-in-Err : goal.returns-in-Err
 returns-in-Err c = rw c.into.ensures (refused c.args.row.now c.args.extra _ c.in-Err.refusal c.in-Err.ensures.0)
 
+-- when the tests are written
 pub returns-in_err-write_tests : goal.returns-in_err-write_tests
 returns-in_err-write_tests c =
     let p = err_from_is_err_and c.from_residual-in_err-write_tests.result c.from_residual-in_err-write_tests.ensures.1 in
