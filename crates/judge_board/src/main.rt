@@ -18,16 +18,6 @@ fn verdict_on(heap: Global, row: &[u64], extra: u64, bytes: &[u8]) -> Result<Ver
     Ok(verdict::judge(row, extra, &shown)?)
 }
 
-// The keys of the test of that number.
-fn test_numbered(tests: &[u64], number: u64) -> &[u64] {
-    let mut place = 1usize;
-    for _earlier in 0..number {
-        let test = suite::test_at(tests, place);
-        place = place.saturating_add(1).saturating_add(test.len());
-    }
-    suite::test_at(tests, place)
-}
-
 // A verdict in words, with the keys of the test that failed.
 fn verdict_text(
     heap: Global,
@@ -44,7 +34,7 @@ fn verdict_text(
             expected,
         } => {
             let tests = formats::tests_row(heap, row, extra)?;
-            let word = WordText(test_numbered(&tests, test));
+            let word = WordText(suite::tests_in(&tests).nth(test as usize).unwrap_or(&[]));
             Ok(format!(in heap; "failed {word} at {key}: {shown} for {expected}")?)
         }
     }

@@ -6,19 +6,9 @@ ghost use Rattle.survivor.specs.Longest.{longest_of, tests_in};
 pub fn longest_test(tests: &[u64]) -> u64
     ensures { result ≡ longest_of (tests_in tests.now) }
 {
-    let [count, ..] = tests else {
-        return 0;
-    };
-    let count = *count;
     let mut longest = 0u64;
-    let mut place = 1usize;
-    for _test in 0..count {
-        if place >= tests.len() {
-            break;
-        }
-        let len = suite::test_at(tests, place).len();
-        longest = longest.max(len as u64);
-        place += 1 + len;
+    for test in suite::tests_in(tests) {
+        longest = longest.max(test.len() as u64);
     }
     longest
 }

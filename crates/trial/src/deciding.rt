@@ -46,12 +46,8 @@ fn add_shown(board: &Board, test: &[u64], all: &mut Vec<u64>) -> Result<(), Allo
 // What a board shows on the tests of a row, one after the other.
 pub fn shown(heap: Global, board: &Board, tests: &[u64]) -> Result<Vec<u64>, AllocError> {
     let mut all = Vec::new(heap);
-    let count = tests.first().copied().unwrap_or(0);
-    let mut place = 1usize;
-    for _test in 0..count {
-        let test = suite::test_at(tests, place);
+    for test in suite::tests_in(tests) {
         add_shown(board, test, &mut all)?;
-        place = place.saturating_add(1).saturating_add(test.len());
     }
     Ok(all)
 }

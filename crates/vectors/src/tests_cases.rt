@@ -7,14 +7,7 @@ use verdict::Verdict;
 
 // The tests in a row, with blanks between them.
 fn tests_text(heap: Global, row: &[u64]) -> Result<String, AllocError> {
-    let mut tests = Vec::new(heap);
-    let count = row.first().copied().unwrap_or(0);
-    let mut place = 1usize;
-    for _test in 0..count {
-        let test = suite::test_at(row, place);
-        tests.push(WordText(test))?;
-        place = place.saturating_add(1).saturating_add(test.len());
-    }
+    let tests: Vec<WordText> = suite::tests_in(row).map(|test| WordText(test)).collect(heap)?;
     format!(in heap; "{}", Joined(&tests))
 }
 
