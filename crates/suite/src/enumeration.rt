@@ -70,7 +70,7 @@ impl Factors {
         let own = own.as_slice();
         let mut test = Candidate::new();
         test.try_extend_from_slice(own).unwrap();
-        for between in 0..self.extra + 1 {
+        for between in 0..=self.extra {
             let against = Against {
                 earlier,
                 ends: self.cover.separating.as_slice(),
