@@ -11,12 +11,15 @@ use crate::specification::Specification;
 use machine::{Machine, Refusal};
 use minimal::MinimalMachine;
 
+// How many states more than its specification an implementation may be tested for.
+const MOST_EXTRA: u64 = 3;
+
 // The minimal machine in a row with so many extra states, or why there are no tests for it.
 pub fn prepare(row: &[u64], extra: u64) -> Result<Specification<'_>, Refusal>
     ensures { Prepared row.now extra result }
 {
     let machine = MinimalMachine::check(Machine::read(row)?)?;
-    if extra > 3 {
+    if extra > MOST_EXTRA {
         return Err(Refusal::TooManyExtra(extra));
     }
     Ok(Specification {
