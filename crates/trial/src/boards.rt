@@ -1,5 +1,5 @@
 // Machines made by chance: specifications, and boards that are to be as they are.
-ghost use Rattle.std.specs.Prelude.{◌≡◌, ◌+◌, ◌<◌, ◌≤◌, OnOk, vec_len};
+ghost use Rattle.std.specs.Prelude.{◌≡◌, ◌+◌, ◌<◌, ◌≤◌, All, OnOk, IfOk, vec_len};
 
 use crate::random::Random;
 use std::alloc::{AllocError, Global};
@@ -17,6 +17,7 @@ pub struct Board {
     keys: usize,
     states: Vec<Vec<Move>>,
     ghost few_keys: { (0 < keys) × (keys ≤ 3) },
+    ghost whole: { All (λ moves. vec_len moves ≡ keys) states.items },
     ghost few_states: { (0 < vec_len states) × (vec_len states ≤ 5) },
 }
 
@@ -39,6 +40,7 @@ fn random_moves(
     keys: usize,
 ) -> Result<Vec<Move>, AllocError>
     requires { 0 < states }
+    ensures { IfOk result (λ moves. vec_len moves ≡ keys) }
 {
     let mut moves = Vec::new(heap);
     for _ in 0..keys {
@@ -112,9 +114,7 @@ impl Board {
     fn change(&mut self, random: &mut Random) {
         let states = self.states.len();
         let number = random.below(states * self.keys);
-        let Some(step) = self.states[number / self.keys].get_mut(number % self.keys) else {
-            return;
-        };
+        let step = &mut self.states[number / self.keys][number % self.keys];
         if random.one_in(2) {
             step.target = random.below(states);
         } else {
