@@ -26,6 +26,7 @@ pub(crate) fn access(m: MinimalMachine) -> ArrayVec<Word, 16>
 {
     let tree = reach(m.machine);
     let mut words = unreached(m.machine.states());
+    // By place: gone through as a slice the tree is lent, and the loop's invariant cannot speak of it.
     for j in 1..tree.found.len() {
         let found = tree.at(j);
         let parent = tree.at(found.parent).class;

@@ -39,7 +39,7 @@ fn write<D: Derived>(machine: &D, out: &mut [u64])
     let keys = machine.keys();
     out[0] = states as u64;
     out[1] = keys as u64;
-    // the place goes on with the moves: no plainer by pieces of the row taken in step with two loops
+    // The place goes on with the moves: pieces of the row, taken in step with two loops, would be no plainer.
     let mut at = 2;
     for state in 0..states {
         for key in 0..keys {

@@ -52,7 +52,7 @@ fn is_bad(row: &[u64], number: usize) -> bool
 }
 
 // The number of the first move that leads to no state or shows 2^32 or more.
-// A loop over states and one over keys, left by the label: moves are told by state and key here as everywhere.
+// Nested loops over states and keys are left by their label.
 fn first_bad_move(row: &[u64], shape: Shape) -> Option<u64>
     requires { (shape_refusal 16 8 row.now ≡ None) × (Heads row.now shape) }
     ensures { result ≡ first (bad_move row.now) (shape.states * shape.keys) }

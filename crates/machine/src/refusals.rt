@@ -28,7 +28,7 @@ pub enum Refusal {
 }
 
 impl Refusal {
-    // Its number in the list of reasons, 1 to 8.
+    // Its number in the list of reasons, 1 to 8: other languages and the programs' lines are told it by number and place.
     pub fn number(self) -> u64
         ensures { result ≡ (reason_of self).number }
     {

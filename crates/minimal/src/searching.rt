@@ -50,7 +50,7 @@ impl Classes<'_> {
     {
         let mut tree = Tree::root(self.of[0]);
         let mut parent = 0;
-        // by number, since the tree grows while it is gone through
+        // By place, since the tree grows while it is gone through.
         while parent < tree.found.len() {
             for key in 0..self.machine.keys() {
                 let class = self.behind(tree.at(parent).class, key);

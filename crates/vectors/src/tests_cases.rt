@@ -7,7 +7,9 @@ use verdict::Verdict;
 
 // The tests in a row, with blanks between them.
 fn tests_text(heap: Global, row: &[u64]) -> Result<String, AllocError> {
-    let tests: Vec<WordText> = suite::tests_in(row).map(|test| WordText(test)).collect(heap)?;
+    let tests: Vec<WordText> = suite::tests_in(row)
+        .map(|test| WordText(test))
+        .collect(heap)?;
     format!(in heap; "{}", Joined(&tests))
 }
 

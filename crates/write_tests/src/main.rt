@@ -9,12 +9,10 @@ use std::io::Read;
 // A test a line, and how many there are.
 fn lines(heap: Global, tests: &[u64]) -> Result<String, AllocError> {
     let mut text = String::new(heap);
-    let mut count = 0u64;
     for test in suite::tests_in(tests) {
         writeln!(text, "{}", WordText(test))?;
-        count = count.saturating_add(1);
     }
-    write!(text, "{count} tests")?;
+    write!(text, "{} tests", suite::tests_in(tests).count())?;
     Ok(text)
 }
 
