@@ -1,8 +1,8 @@
-use Rattle.std.proofs.Common.{◌≡◌, ◌<◌, ◌++◌, ◌∷◌, [], length, take, sym, ap, ◌∙◌, zero-mul, arith}
-use Rattle.std.proofs.lemmas.List.{append-nil, map-append}
+use Rattle.std.proofs.Common.{◌≡◌, ◌<◌, ◌++◌, ◌∷◌, [], length, take, ap, ◌∙◌, arith}
+use Rattle.std.proofs.lemmas.List.{map-append}
 use Rattle.cover.specs.Words.{word_of, words_of}
 use Rattle.machine.specs.Words.{products, single_keys}
-use Rattle.suite.proofs.WithKey.{plain_more, key_behind, short_word, word_done, all_done, plain_done, place_low, place_next}
+use Rattle.suite.proofs.WithKey.{plain_more, key_behind, short_word, word_done, place_low, place_next}
 use Rattle.suite.proofs.keyed.with_key.Goals as goal
 
 pub plain-preserved : goal.plain-preserved
@@ -11,15 +11,6 @@ plain-preserved c =
       plain_more c.args.access.now c.plain.word-index c.word-item.result c.plain-test.true c.word-item.is (words_of c.plain.fronts.items) (words_of c.push.new.self.items) c.plain.invariant.0 pushed,
       let n = c.plain.invariant.1 in let m = c.push.ensures.len in omega arith,
     )
-
-pub keyed-init : goal.keyed-init
-keyed-init c = (
-  plain_done c.args.access.now c.plain.word-index c.args.keys (words_of c.plain.fronts.items) c.plain-test.false c.plain.invariant.0,
-  let n = c.plain.invariant.1 in let z = zero-mul c.args.keys in let a = c.plain-test.false in let b = c.plain.auto.word-index-end in omega arith,
-)
-
-pub loop-key-init : goal.loop-key-init
-loop-key-init c = (c.keyed.invariant.0 ∙ sym (append-nil _), let n = c.keyed.invariant.1 in omega arith)
 
 pub followed-requires : goal.followed-requires
 followed-requires c = short_word c.args.access.now c.keyed.word-index c.word-item-in-keyed.result c.keyed-test.true c.word-item-in-keyed.is c.requires.1.1
@@ -45,6 +36,3 @@ keyed-preserved c =
       word_done c.args.access.now c.keyed.word-index c.args.keys c.loop-key.key (words_of c.loop-key.fronts.items) c.keyed-test.true all c.loop-key.invariant.0,
       c.loop-key.invariant.1 ∙ place_next (length c.args.access.now) c.keyed.word-index c.args.keys c.loop-key.key all,
     )
-
-pub returns : goal.returns
-returns c = all_done c.args.access.now c.keyed.word-index c.args.keys (words_of c.keyed.fronts.items) c.keyed-test.false c.keyed.invariant.0

@@ -1,10 +1,6 @@
-use Rattle.std.proofs.Common.{◌≤◌, length, ap, ◌∙◌, arith}
-use lib.ListN.{length-map}
-use Rattle.std.proofs.lemmas.List.{take_all}
-use Rattle.cover.specs.Words.{word_of, words_of}
 use Rattle.suite.specs.Factors.{ends_in}
-use Rattle.suite.specs.Kept.{kept, kept_from}
-use Rattle.suite.proofs.Feeding.{fed_none, fed_same, fed_then}
+use Rattle.suite.specs.Kept.{kept_from}
+use Rattle.suite.proofs.Feeding.{fed_none, fed_then}
 use Rattle.suite.proofs.Levels.{front_more}
 use Rattle.suite.proofs.factors.Factors.each_test.Goals as goal
 
@@ -17,10 +13,3 @@ loop-i-preserved g c =
     let f = c.args.self.now in
     let more = front_more f.keys f.extra (ends_in f) c.as_slice-fronts.result.now c.loop-i.i c.index-fronts-i.result c.loop-i-test.true c.index-fronts-i.is in
     fed_then g.S.Sink.step _ _ _ c.args.sink.now c.loop-i.sink c.each_behind.new.sink more c.loop-i.invariant c.each_behind.ensures
-
-pub returns : goal.returns
-returns g c =
-    let f = c.args.self.now in
-    let vs = c.as_slice-fronts.result.now in
-    let l : length (words_of vs) ≤ c.loop-i.i = let t = c.loop-i-test.false in omega (arith, length-map vs word_of) in
-    fed_same g.S.Sink.step _ _ c.args.sink.now c.loop-i.sink (ap (λ z. kept f.keys f.extra z (ends_in f)) (take_all c.loop-i.i (words_of vs) l ∙ ap words_of c.as_slice-fronts.ensures.value)) c.loop-i.invariant

@@ -1,11 +1,10 @@
-use Rattle.std.proofs.Common.{◌≡◌, ◌≤◌, ◌++◌, length, take, sym, refl, ap, ◌∙◌, arith}
+use Rattle.std.proofs.Common.{◌≡◌, ◌≤◌, ◌++◌, length, take, sym, refl, ap, ◌∙◌}
 use Rattle.std.specs.List.{list_any}
-use lib.ListN.{length-map}
-use Rattle.std.proofs.lemmas.List.{take_all, take_at}
+use Rattle.std.proofs.lemmas.List.{take_at}
 use Rattle.cover.specs.Words.{word_of, words_of}
-use Rattle.suite.specs.Enumeration.{fresh_of, fresh_behind, longer, marked}
+use Rattle.suite.specs.Enumeration.{fresh_behind, longer, marked}
 use Rattle.suite.proofs.Ends.{came_up, skipped, handed_on}
-use Rattle.suite.proofs.Feeding.{fed_none, fed_same}
+use Rattle.suite.proofs.Feeding.{fed_none}
 use Rattle.suite.proofs.values.Against.each_end.Goals as goal
 use Rattle.suite.proofs.values.Against.each_end.Goals.{then-not-repeated, else-not-repeated}
 
@@ -38,9 +37,3 @@ loop-end-preserved g c =
         stays = stays;
       })
     ]
-
-pub returns-clause-fed : goal.returns-clause-fed
-returns-clause-fed g c =
-    let ws = c.args.self.ends.now in
-    let all : length (words_of ws) ≤ c.loop-end.end-index = let t = c.loop-end-test.false in omega (arith, length-map ws word_of) in
-    fed_same g.S.Sink.step _ _ c.args.sink.now c.loop-end.sink (ap (fresh_of c.args.self c.args.test.now.items) (take_all c.loop-end.end-index (words_of ws) all)) c.loop-end.invariant.fed
