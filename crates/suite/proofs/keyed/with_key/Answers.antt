@@ -1,8 +1,8 @@
-use Rattle.std.proofs.Common.{◌≡◌, ◌<◌, ◌++◌, ◌∷◌, [], length, take, ap, ◌∙◌, arith}
+use Rattle.std.proofs.Common.{◌++◌, ◌∷◌, [], take, ap, ◌∙◌, arith}
 use Rattle.std.proofs.lemmas.List.{map-append}
 use Rattle.cover.specs.Words.{word_of, words_of}
 use Rattle.machine.specs.Words.{products, single_keys}
-use Rattle.suite.proofs.WithKey.{plain_more, key_behind, short_word, word_done, place_low, place_next}
+use Rattle.suite.proofs.WithKey.{plain_more, key_behind}
 use Rattle.suite.proofs.keyed.with_key.Goals as goal
 
 pub plain-preserved : goal.plain-preserved
@@ -12,9 +12,6 @@ plain-preserved c =
       let n = c.plain.invariant.1 in let m = c.push.ensures.len in omega arith,
     )
 
-pub followed-requires : goal.followed-requires
-followed-requires c = short_word c.args.access.now c.keyed.word-index c.word-item-in-keyed.result c.keyed-test.true c.word-item-in-keyed.is c.requires.1.1
-
 pub loop-key-preserved : goal.loop-key-preserved
 loop-key-preserved c =
     let ws = c.args.access.now in
@@ -22,17 +19,4 @@ loop-key-preserved c =
       key_behind ws c.keyed.word-index c.word-item-in-keyed.result c.keyed-test.true c.word-item-in-keyed.is (words_of ws ++ products (take c.keyed.word-index (words_of ws)) (single_keys c.args.keys)) c.loop-key.key
           (words_of c.loop-key.fronts.items) (words_of c.push-in-loop-key.new.self.items) _ c.loop-key.invariant.0 pushed c.followed.ensures,
       let n = c.loop-key.invariant.1 in let m = c.push-in-loop-key.ensures.len in omega arith,
-    )
-
-pub push-requires-in-loop-key : goal.push-requires-in-loop-key
-push-requires-in-loop-key c =
-    let n = c.loop-key.invariant.1 in
-    let low : length c.loop-key.fronts.items < 144 = omega (arith, place_low (length c.args.access.now) c.keyed.word-index c.args.keys c.loop-key.key c.requires.0 c.requires.1.0 c.keyed-test.true c.loop-key-test.true) in
-    (omega arith, low)
-
-pub keyed-preserved : goal.keyed-preserved
-keyed-preserved c =
-    let all : c.loop-key.key ≡ c.args.keys = let a = c.loop-key-test.false in let b = c.loop-key.auto.key-end in omega arith in (
-      word_done c.args.access.now c.keyed.word-index c.args.keys c.loop-key.key (words_of c.loop-key.fronts.items) c.keyed-test.true all c.loop-key.invariant.0,
-      c.loop-key.invariant.1 ∙ place_next (length c.args.access.now) c.keyed.word-index c.args.keys c.loop-key.key all,
     )
