@@ -1,26 +1,6 @@
 use Rattle.std.proofs.Common.{◌≡◌, ◌<◌, length, arith}
-use Rattle.std.proofs.lemmas.List.{length-set}
-use Rattle.machine.proofs.Writing.{begun_head, begun_move, begun_row, begun_all, begun_anew, begun_over, begun_later, move_room}
+use Rattle.machine.proofs.Writing.{begun_head, begun_move, begun_row, begun_all, begun_over, begun_later, move_room}
 use Rattle.machine.proofs.making.write.Goals as goal
-
-pub loop-state-init : goal.loop-state-init
-loop-state-init g c = begun_anew _ _ _ _ _ _ _ (begun_head _ _ c.args.out.now _ _ c.states-states.ensures c.keys-keys.ensures (let r = c.requires in omega arith))
-
-pub loop-key-init : goal.loop-key-init
-loop-key-init g c = (begun_anew _ _ _ _ _ _ _ c.loop-state.invariant, c.loop-state-test.true)
-
-pub bounds-out-at : goal.bounds-out-at
-bounds-out-at g c =
-    let r = move_room _ _ _ _ _ _ _ _ c.args.out.now c.states-states.ensures c.keys-keys.ensures c.loop-state-test.true c.loop-key-test.true c.loop-key.invariant.0.number c.requires c.loop-state.auto.out in
-    let k = c.loop-key.auto.out in
-    omega arith
-
-pub bounds-out-at-in-loop-key : goal.bounds-out-at-in-loop-key
-bounds-out-at-in-loop-key g c =
-    let r = move_room _ _ _ _ _ _ _ _ c.args.out.now c.states-states.ensures c.keys-keys.ensures c.loop-state-test.true c.loop-key-test.true c.loop-key.invariant.0.number c.requires c.loop-state.auto.out in
-    let k = c.loop-key.auto.out in
-    let l = length-set c.loop-key.out c.loop-key.at c.step-step.result.to in
-    omega arith
 
 pub loop-key-preserved : goal.loop-key-preserved
 loop-key-preserved g c =

@@ -1,6 +1,5 @@
-use Rattle.std.proofs.Common.{◌≡◌, ◌+◌, ◌*◌, false, sym, ◌∙◌, add-mul, one-mul, arith, below_more}
+use Rattle.std.proofs.Common.{◌≡◌, sym, ◌∙◌, arith}
 use lib.Arith.{digits_lt}
-use Rattle.machine.specs.Refusals.{bad_move}
 use Rattle.machine.proofs.First.{first_none, first_some}
 use Rattle.machine.proofs.Rows.{shaped, number_low, number_whole}
 use Rattle.machine.proofs.reading.first_bad_move.Goals as goal
@@ -16,18 +15,6 @@ is_bad-requires c = (
   number_whole c.args.row.now _ _ (shaped 16 8 _ c.requires.0) c.requires.1.states c.requires.1.keys _ _ c.scan-test.true c.loop-key-test.true,
   number_low c.args.row.now _ _ (shaped 16 8 _ c.requires.0) c.requires.1.states c.requires.1.keys _ _ c.scan-test.true c.loop-key-test.true,
 )
-
-pub loop-key-preserved : goal.loop-key-preserved
-loop-key-preserved c =
-    let good : bad_move c.args.row.now (c.scan.state * c.args.shape.keys + c.loop-key.key) ≡ false = sym c.is_bad.ensures ∙ c.if-is_bad.false in
-    (c.loop-key.invariant.0, c.scan-test.true, λ j h. below_more _ _ c.loop-key.invariant.2 good j (omega arith))
-
-pub scan-preserved : goal.scan-preserved
-scan-preserved c =
-    let k = c.args.shape.keys in
-    let next = add-mul c.scan.state 1 k in
-    let one = one-mul k in
-    (c.loop-key.invariant.0, λ j h. c.loop-key.invariant.2 j (let l = c.loop-key-test.false in omega arith))
 
 pub returns-after-scan : goal.returns-after-scan
 returns-after-scan c =

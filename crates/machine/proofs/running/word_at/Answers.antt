@@ -1,12 +1,6 @@
-use Rattle.std.proofs.Common.{◌≡◌, suc, ◌+◌, ◌-◌, length, get_or, take, drop, sym, ap, ◌∙◌, add-one, arith}
-use lib.Seq.{take-nil}
-use Rattle.std.proofs.lemmas.List.{drop_all, take_rest, take_min}
+use Rattle.std.proofs.Common.{◌≡◌, suc, ◌+◌, ◌-◌, length, get_or, take, drop, ap, ◌∙◌, add-one}
+use Rattle.std.proofs.lemmas.List.{take_rest, take_min}
 use Rattle.machine.proofs.running.word_at.Goals as goal
-
-pub returns-then-at-row : goal.returns-then-at-row
-returns-then-at-row c =
-    let row = c.args.row.now in
-    sym (ap (take (get_or row c.args.at 0)) (drop_all (suc c.args.at) row (let l = c.if-at-row.true in omega arith)) ∙ take-nil _)
 
 pub returns : goal.returns
 returns c =

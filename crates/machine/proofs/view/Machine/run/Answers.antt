@@ -1,4 +1,4 @@
-use Rattle.std.proofs.Common.{get_or, sym, refl, ap, ◌∙◌, take_all}
+use Rattle.std.proofs.Common.{get_or, sym, refl, ap, ◌∙◌}
 use Rattle.machine.specs.Machine.{after, move}
 use Rattle.machine.specs.Run.{model}
 use Rattle.machine.proofs.Runs.{after_more}
@@ -14,6 +14,3 @@ loop-key-preserved c =
     c.next-reached.ensures.value
     ∙ ap (λ s. (move m s (get_or c.args.word.now c.loop-key.key-index 0)).to) c.loop-key.invariant
     ∙ sym (after_more m c.args.state c.args.word.now c.loop-key.key-index c.loop-key-test.true)
-
-pub returns : goal.returns
-returns c = c.loop-key.invariant ∙ ap (after (model c.args.self) c.args.state) (take_all _ _ c.loop-key-test.false)

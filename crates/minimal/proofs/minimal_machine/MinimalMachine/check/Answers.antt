@@ -1,9 +1,5 @@
-use Rattle.std.proofs.Common.{refl}
 use Rattle.minimal.proofs.Needed.{minimal_none_redundant}
 use Rattle.minimal.proofs.minimal_machine.MinimalMachine.check.Goals as goal
 
 pub invariant_of-result : goal.invariant_of-result
 invariant_of-result c = record { none_redundant = minimal_none_redundant c.in_default.ensures }
-
-pub returns-in-Some : goal.returns-in-Some
-returns-in-Some c = (c.in-Some.state, c.in-Some.ensures, refl)
