@@ -6,7 +6,8 @@ ghost use Rattle.cover.specs.Levels.{entry, LevelsBelow, first_key};
 
 use machine::Machine;
 
-// For states s and t of a machine, at 16 * s + t, the level at which they are told apart, or the bound if no level below it does.
+// For states s and t of a machine, at 16 * s + t, the level at which they are told apart, or the bound if no level below it does, as `level` of
+// specs/Levels.antt has it. One array with a place for each pair there may be, as `entry` reads it: the libraries take no heap.
 #[derive(Clone, Copy)]
 pub(crate) struct Levels<'a> {
     pub(crate) machine: Machine<'a>,

@@ -11,15 +11,18 @@ use crate::running::Step;
 pub trait Derived {
     // the machine
     ghost made: { Self → Model };
-    // how many keys it has
+    // its number of keys
     ghost made_keys: { Self → ℕ };
 
+    // How many states it has.
     fn states(&self) -> usize
         ensures { result ≡ length (made self.now) };
 
+    // How many keys it has.
     fn keys(&self) -> usize
         ensures { result ≡ made_keys self.now };
 
+    // What a key does in a state.
     fn step(&self, state: usize, key: usize) -> Step
         requires state_within { state < length (made self.now) }
         requires key_within { key < made_keys self.now }
@@ -39,7 +42,7 @@ fn write<D: Derived>(machine: &D, out: &mut [u64])
     let keys = machine.keys();
     out[0] = states as u64;
     out[1] = keys as u64;
-    // The place goes on with the moves: pieces of the row, taken in step with two loops, would be no plainer.
+    // The place goes on with the moves: pieces of the row in step with two loops are no plainer, and reckoned anew it is multiplied out for each.
     let mut at = 2;
     for state in 0..states {
         for key in 0..keys {

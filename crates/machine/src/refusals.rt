@@ -44,6 +44,7 @@ impl Refusal {
         }
     }
 
+    // Where it applies, or the number that is refused: it is told with the number, to the same.
     pub fn place(self) -> u64
         ensures { result ≡ (reason_of self).place }
     {

@@ -21,12 +21,14 @@ pub struct Difference {
 }
 
 impl Machine<'_> {
+    // How many states it has.
     pub fn states(self) -> usize
         ensures { result ≡ length (model self.entry) }
     {
         self.states
     }
 
+    // How many keys it has.
     pub fn keys(self) -> usize
         ensures { result ≡ keys_of self.entry }
     {
@@ -50,7 +52,7 @@ impl Machine<'_> {
         }
     }
 
-    // The state that a key leads to.
+    // The state that a key leads to: 0 where the state or the key is not there, for a move is total.
     pub fn next(self, state: usize, key: usize) -> usize
         ensures value { result ≡ (move (model self.entry) state key).to }
         ensures inside { result < length (model self.entry) }
@@ -58,7 +60,7 @@ impl Machine<'_> {
         self.step(state, key).to
     }
 
-    // What a key shows.
+    // What a key shows: 0 where the state or the key is not there, for a move is total.
     pub fn output(self, state: usize, key: usize) -> u64
         ensures value { result ≡ (move (model self.entry) state key).output }
         ensures bound { result < 2 ^ 32 }
@@ -96,7 +98,7 @@ impl Machine<'_> {
     }
 }
 
-// The word that stands in a row with its length in front: the keys that are there, if the row ends before.
+// The word that stands in a row with its length in front: the keys that are there, if the row ends before. Behind the row there is no key.
 pub fn word_at(row: &[u64], at: usize) -> &[u64]
     ensures { result.now ≡ word_in row.now at }
 {

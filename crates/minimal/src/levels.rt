@@ -63,14 +63,9 @@ impl<'a> Classes<'a> {
         ensures finer { (s : ℕ) → s < length (model self.entry.machine) → class_in result.of s ≡ finer (keys_of self.entry.machine) (model self.entry.machine) self.entry.of s }
         ensures level { (j : ℕ) → AtLevel (keys_of self.entry.machine) (model self.entry.machine) j self.entry.of → AtLevel (keys_of self.entry.machine) (model self.entry.machine) (j + 1) result.of }
     {
-        let mut of = [0; 16];
-        // By number: gone through by `iter_mut` the array is lent, and the loop's invariant cannot speak of it.
-        for state in 0..self.machine.states() {
-            of[state] = self.smallest(state);
-        }
         Classes {
             machine: self.machine,
-            of,
+            of: array::from_fn(|state| self.smallest(state)),
         }
     }
 

@@ -8,5 +8,5 @@ use machine::Machine;
 #[derive(Clone, Copy)]
 pub struct MinimalMachine<'a> {
     pub machine: Machine<'a>,
-    ghost none_redundant: { NoneRedundant (keys_of machine) (model machine) },
+    pub ghost none_redundant: { NoneRedundant (keys_of machine) (model machine) },
 }

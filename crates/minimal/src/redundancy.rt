@@ -14,6 +14,7 @@ pub fn redundant(m: Machine) -> Option<usize>
 {
     let classes = Classes::of_equivalent(m);
     let tree = reach(m);
+    // A loop: with `find` the proof of what is known of the states before did not close.
     for state in 0..m.states() {
         if classes.of[state] < state || tree.find(state).is_none() {
             return Some(state);

@@ -1,7 +1,8 @@
 // The classes that a breadth first search found.
 use arrayvec::ArrayVec;
 
-// A class, and where it is not the first the place of the class that it was found from, its parent, and the key that led there.
+// A class, and where it is not the first the place of the class that it was found from, its parent, and the key that led there: no walk towards
+// the first reads these two of it. A place and no Box, for the libraries take no heap.
 #[derive(Clone, Copy, Default)]
 pub struct Found {
     pub class: usize,

@@ -17,10 +17,9 @@ fn same_keys(a: &[u64], b: &[u64]) -> bool
 }
 
 // Whether the word begins with `front`.
-pub(crate) fn begins(front: &Word, word: &[u64]) -> bool
-    ensures { result ≡ begins (word_of front.now) word.now }
+pub(crate) fn begins(front: &[u64], word: &[u64]) -> bool
+    ensures { result ≡ begins front.now word.now }
 {
-    let front = front.as_slice();
     word.len() >= front.len() && same_keys(front, &word[..front.len()])
 }
 
@@ -35,7 +34,7 @@ fn is_longer(word: &Word, front: &[u64]) -> bool
     ensures { result ≡ longer front.now (word_of word.now) }
 {
     let word = word.as_slice();
-    word.len() > front.len() && same_keys(front, &word[..front.len()])
+    word.len() > front.len() && begins(front, word)
 }
 
 // Whether the word ends with `end`, with at least `least` keys before it and fewer than `least + n`.
@@ -66,10 +65,10 @@ pub(crate) fn some_parts(n: usize, fronts: &[Word], words: &[Word], word: &[u64]
 fn parts(n: usize, front: &Word, words: &[Word], word: &[u64]) -> bool
     ensures { result ≡ parts n (words_of words.now) (word_of front.now) word.now }
 {
-    begins(front, word) && some_end(front.len(), n, words, word)
+    begins(front.as_slice(), word) && some_end(front.len(), n, words, word)
 }
 
-// Whether the test ends with `end`, at a marked place.
+// Whether the test ends with `end`, at a marked place. Four lines are as in `ends`: one function of them both, over a test of the place, is no plainer.
 fn ends_marked(marks: &Marks, end: &Word, test: &Candidate) -> bool
     ensures { result ≡ ends_marked marks.now test.now.items (word_of end.now) }
 {

@@ -1,4 +1,4 @@
-// What the tests are made of, by value.
+// What the tests are made of.
 ghost use Rattle.std.specs.Prelude.{◌≤◌};
 
 use arrayvec::ArrayVec;

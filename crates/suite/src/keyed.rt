@@ -7,6 +7,7 @@ ghost use Rattle.suite.specs.Suite.{with_key};
 use crate::factors::Fronts;
 use cover::{Word, copied, followed};
 
+// Each loop has a name, which its proof is told under.
 pub(crate) fn with_key(access: &[Word], keys: u64) -> Fronts
     requires { (length access.now ≤ 16) × ((keys ≤ 8) × (AllByRecursion (λ w. length w < 16) (words_of access.now))) }
     ensures { words_of result.items ≡ with_key keys (words_of access.now) }

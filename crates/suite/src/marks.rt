@@ -22,7 +22,7 @@ impl Against<'_> {
         let mut marks = [false; 36];
         mark(&mut marks, self.own, self.between);
         for word in self.earlier {
-            if begins(word, front) {
+            if begins(word.as_slice(), front) {
                 mark(&mut marks, word.len(), self.extra + 1);
             }
         }

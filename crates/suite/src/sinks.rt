@@ -15,7 +15,7 @@ pub struct Tally {
     pub numbers: u64,
 }
 
-// A row, and the place for the next test.
+// A row, and the place for the next test: not the rest of the row alone, since the step of the sink is told of the whole row.
 #[derive(Drop)]
 pub struct Writer<'a> {
     pub row: &'a mut [u64],

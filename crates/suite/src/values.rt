@@ -1,4 +1,4 @@
-// What the enumeration holds by value.
+// What the enumeration works with.
 ghost use Rattle.std.specs.Prelude.{◌+◌, ◌≤◌};
 
 use arrayvec::ArrayVec;
@@ -21,5 +21,6 @@ pub struct Against<'a> {
     pub between: usize,
     pub extra: usize,
     ghost room: { own + between ≤ 19 },
+    // The bound stands with each number of extra states: a type for it alone would only be taken apart again.
     ghost few_extra: { extra ≤ 3 },
 }

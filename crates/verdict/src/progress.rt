@@ -2,7 +2,8 @@
 use crate::verdicts::Verdict;
 use machine::Machine;
 
-// What was shown on the tests to come; how many tests went by; the first of them that was cut short; the verdict so far.
+// What was shown on the tests to come; how many tests went by; the first of them that was cut short; the verdict so far, which stays what it was
+// before the cut.
 #[derive(Clone, Copy)]
 pub struct Progress<'a> {
     pub(crate) machine: Machine<'a>,

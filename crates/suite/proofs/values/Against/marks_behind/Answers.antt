@@ -1,6 +1,7 @@
-use Rattle.std.proofs.Common.{false, sym, ◌∙◌, arith}
+use Rattle.std.proofs.Common.{◌≡◌, false, sym, ap, ◌∙◌, arith}
 use lib.ListN.{length-map}
 use Rattle.cover.specs.Words.{word_of, words_of}
+use Rattle.suite.specs.Kept.{begins}
 use Rattle.suite.proofs.Marked.{marks_none, marks_more, marks_same, marks_all}
 use Rattle.suite.proofs.values.Against.marks_behind.Goals as goal
 use Rattle.suite.proofs.values.Against.marks_behind.Goals.{then-begins, else-begins}
@@ -16,9 +17,10 @@ loop-word-preserved c =
     let i = c.loop-word.word-index in
     let x = c.word-item.result in
     let inside = c.loop-word-test.true in
+    let begun : c.begins.result ≡ begins (word_of x) f = c.begins.ensures ∙ ap (λ w. begins w f) c.as_slice.ensures.value in
     elim c.if-begins.branch [
-      | then-begins w ↦ rw w.marks-is (λ m h. marks_more a.extra f ws i a.own a.between x inside c.word-item.is m _ _ (c.loop-word.invariant m h) (sym c.begins.ensures ∙ w.if-begins.true) (rw w.len.ensures.value at (w.mark-then-begins.ensures m h)))
-      | else-begins w ↦ rw w.marks-is (λ m h. marks_same a.extra f ws i a.own a.between x inside c.word-item.is m _ false (c.loop-word.invariant m h) (sym c.begins.ensures ∙ w.if-begins.false))
+      | then-begins w ↦ rw w.marks-is (λ m h. marks_more a.extra f ws i a.own a.between x inside c.word-item.is m _ _ (c.loop-word.invariant m h) (sym begun ∙ w.if-begins.true) (rw w.len.ensures.value at (w.mark-then-begins.ensures m h)))
+      | else-begins w ↦ rw w.marks-is (λ m h. marks_same a.extra f ws i a.own a.between x inside c.word-item.is m _ false (c.loop-word.invariant m h) (sym begun ∙ w.if-begins.false))
     ]
 
 pub returns : goal.returns
