@@ -12,6 +12,7 @@ pub fn tests_row(heap: Global, row: &[u64], extra: u64) -> Result<Vec<u64>, Fail
     let needed = match suite::write_tests(row, extra, &mut []) {
         Err(Refusal::NoRoomForTests(needed)) => needed,
         Err(refusal) => return Err(refusal.into()),
+        // Never: tests take at least one number, their count, and an empty row has room for none.
         Ok(_) => 0,
     };
     let mut out = vec![in heap; 0u64; needed as usize]?;

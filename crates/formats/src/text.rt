@@ -1,5 +1,6 @@
 // What the programs print.
-ghost use Rattle.std.specs.Prelude.{◌≡◌, Some, IfOk, string_bytes};
+ghost use Rattle.std.specs.Prelude.{◌≡◌, Some, Err, IfOk, IsErr, string_bytes};
+ghost use Rattle.formats.specs.declared.failures.Failure.TheVariants.{OutOfMemory};
 ghost use Rattle.formats.specs.Text.{word_text};
 
 use crate::failures::Failure;
@@ -31,8 +32,10 @@ pub fn word_text(heap: Global, word: &[u64]) -> Result<String, AllocError>
     WordText(word).to_string(heap)
 }
 
-// An answer or a refusal as a line.
-pub fn print_answer(rt: &impl Print, answer: Result<String, Failure>) -> io::Result<()> {
+// An answer or a refusal as a line; want of memory is an error, and no line. What a write writes, no contract of std tells.
+pub fn print_answer(rt: &impl Print, answer: Result<String, Failure>) -> io::Result<()>
+    ensures { answer ≡ Err OutOfMemory → IsErr result }
+{
     match answer {
         Ok(text) => rt.println(text),
         Err(Failure::OutOfMemory) => Err(AllocError.into()),

@@ -4,7 +4,7 @@ ghost use Rattle.std.specs.Prelude.{◌≡◌, ◌+◌, ◌<◌, ◌≤◌, All,
 use crate::random::Random;
 use std::alloc::{AllocError, Global};
 
-// Where a key leads, and what it shows.
+// Where a key leads, and what it shows; no `machine::Step`, for the trial shares nothing with what it tries.
 #[derive(Clone, Copy)]
 pub struct Move {
     pub target: usize,
@@ -21,6 +21,7 @@ pub struct Board {
     ghost few_states: { (0 < vec_len states) × (vec_len states ≤ 5) },
 }
 
+// By hand, since `Clone` cannot be derived on a struct with a ghost field.
 impl Clone for Board {
     ghost is_clone = { λ board copy. vec_len copy.states ≡ vec_len board.states };
 
@@ -122,13 +123,14 @@ impl Board {
         }
     }
 
+    // How many states there are.
     pub fn states(&self) -> usize
         ensures { result ≡ vec_len self.now.states }
     {
         self.states.len()
     }
 
-    // The moves of a state, by key; none if there is no such state.
+    // The moves of a state, by key; none if there is no such state, since no ghost field says that a move leads to a state.
     pub fn moves(&self, state: usize) -> &[Move] {
         match self.states.get(state) {
             Some(moves) => moves,

@@ -3,7 +3,6 @@ ghost use Rattle.std.specs.Prelude.{◌≤◌};
 
 use crate::boards::Board;
 use crate::deciding::{equivalent, shown};
-use anyhow::anyhow;
 use std::alloc::{AllocError, Global};
 use verdict::Verdict;
 
@@ -17,6 +16,7 @@ pub struct Comparison {
 }
 
 impl Comparison {
+    // Whether the board passed.
     pub fn passed(&self) -> bool {
         self.verdict == Verdict::Passed
     }
@@ -30,6 +30,7 @@ pub struct Judge {
 }
 
 impl Judge {
+    // A judge with room for 16,384 numbers, as more no tests here take.
     pub fn new(heap: Global) -> Result<Judge, AllocError> {
         Ok(Judge {
             heap,
@@ -45,13 +46,12 @@ impl Judge {
         board: &Board,
     ) -> anyhow::Result<Verdict> {
         let row = machine.row(self.heap)?;
-        let Ok(_) = suite::write_tests(&row, extra, &mut self.room) else {
-            return Err(anyhow!("no tests"));
-        };
+        suite::write_tests(&row, extra, &mut self.room)?;
         let seen = shown(self.heap, board, &self.room)?;
-        verdict::judge(&row, extra, &seen).map_err(|_| anyhow!("no verdict"))
+        Ok(verdict::judge(&row, extra, &seen)?)
     }
 
+    // Judges a board that is to be as a machine is, and decides by itself what the verdict has to be.
     pub fn compare(
         &mut self,
         machine: &Board,

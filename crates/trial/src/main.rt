@@ -41,18 +41,18 @@ fn main(rt: HostRuntime) -> anyhow::Result<()> {
     let heap = rt.alloc();
     let mut random = Random::seeded(2024);
     let mut judge = Judge::new(heap)?;
-    let mut machines = Vec::new(heap);
+    let mut machines = 0;
     let mut comparisons = Vec::new(heap);
-    for _ in 0..1000 {
+    for _ in 0..1000usize {
         let states = random.below(3) + 1;
         let keys = random.below(3) + 1;
         let machine = Board::random(heap, &mut random, states, keys)?;
         if is_minimal(heap, &machine)? {
             compare_boards(heap, &mut random, &mut judge, &machine, &mut comparisons)?;
-            machines.push(machine)?;
+            machines += 1;
         }
     }
-    let tally = Tally::of(machines.len(), &comparisons);
+    let tally = Tally::of(machines, &comparisons);
     println!(rt; "{tally}")?;
     Ok(())
 }

@@ -3,6 +3,7 @@ use crate::comparing::Comparison;
 use std::fmt;
 use verdict::Verdict;
 
+// What the trial prints at its end.
 #[derive(Clone, Copy)]
 pub struct Tally {
     machines: usize,
@@ -14,7 +15,7 @@ pub struct Tally {
     sum: u64,
 }
 
-// A number more in a checksum below 2^32.
+// A number more in a checksum below 2^32, as that of crates/vectors: programs can share libraries alone, and this line needs none.
 fn with_number(sum: u64, number: u64) -> u64 {
     sum.wrapping_mul(31).wrapping_add(number) & 0xffff_ffff
 }

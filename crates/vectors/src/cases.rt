@@ -9,33 +9,43 @@ use std::str::Split;
 #[derive(Drop)]
 pub struct Case<'a> {
     pub heap: Global,
+    line: &'a str,
     parts: Split<'a, char>,
 }
 
+// Numbers with blanks between them.
+fn numbers_in(heap: Global, text: &str) -> anyhow::Result<Vec<u64>> {
+    let mut numbers = Vec::new(heap);
+    for word in text.split_whitespace() {
+        numbers.push(word.parse::<u64>()?)?;
+    }
+    Ok(numbers)
+}
+
 impl<'a> Case<'a> {
+    // The case in a line, with no part taken yet.
     pub fn of(heap: Global, line: &'a str) -> Case<'a> {
         Case {
             heap,
+            line,
             parts: line.split('/'),
         }
     }
 
-    fn part(&mut self) -> anyhow::Result<&'a str> {
-        self.parts.next().context("a part is missing")
+    // The numbers of a line that is one row alone: a slash is no number.
+    pub fn row(&self) -> anyhow::Result<Vec<u64>> {
+        numbers_in(self.heap, self.line)
     }
 
     // The number in the next part.
     pub fn number(&mut self) -> anyhow::Result<u64> {
-        Ok(self.part()?.trim().parse::<u64>()?)
+        let part = self.parts.next().context("a part is missing")?;
+        Ok(part.trim().parse::<u64>()?)
     }
 
-    // The numbers in the next part, with blanks between them.
+    // The numbers in the next part; none if there is no part.
     pub fn numbers(&mut self) -> anyhow::Result<Vec<u64>> {
-        let mut numbers = Vec::new(self.heap);
-        for word in self.part()?.split_whitespace() {
-            numbers.push(word.parse::<u64>()?)?;
-        }
-        Ok(numbers)
+        numbers_in(self.heap, self.parts.next().unwrap_or(""))
     }
 }
 
@@ -70,7 +80,7 @@ impl From<Failure> for NoAnswer {
     fn from(failure: Failure) -> NoAnswer {
         match failure {
             Failure::Refused(refusal) => NoAnswer::Refused(refusal),
-            Failure::OutOfMemory => NoAnswer::Failed(failure.into()),
+            Failure::OutOfMemory => AllocError.into(),
         }
     }
 }

@@ -1,6 +1,7 @@
 // Cases of machines alone: reading, minimizing, covering.
 use crate::cases::{Case, NoAnswer};
 use crate::text::{Joined, machine_row};
+use anyhow::Context;
 use cover::{Cover, Word};
 use formats::WordText;
 use machine::Machine;
@@ -8,15 +9,15 @@ use minimal::MinimalMachine;
 use std::alloc::{AllocError, Global};
 
 // A row: its numbers of states and keys.
-pub fn read(mut case: Case) -> Result<String, NoAnswer> {
-    let row = case.numbers()?;
+pub fn read(case: Case) -> Result<String, NoAnswer> {
+    let row = case.row()?;
     let machine = Machine::read(&row)?;
     Ok(format!(in case.heap; "{} states, {} keys", machine.states(), machine.keys())?)
 }
 
 // A row: the row of its minimal machine.
-pub fn minimize(mut case: Case) -> Result<String, NoAnswer> {
-    let row = case.numbers()?;
+pub fn minimize(case: Case) -> Result<String, NoAnswer> {
+    let row = case.row()?;
     let mut out = vec![in case.heap; 0u64; 258]?;
     let states = minimal::minimize(&row, &mut out)?;
     let minimized = Joined(machine_row(&out, states));
@@ -32,10 +33,11 @@ fn words_text(heap: Global, words: &[Word]) -> Result<String, AllocError> {
     format!(in heap; "{}", Joined(&texts))
 }
 
-// A minimal machine's row: its access words and its separating words.
-pub fn words(mut case: Case) -> Result<String, NoAnswer> {
-    let row = case.numbers()?;
-    let cover = Cover::of(MinimalMachine::check(Machine::read(&row)?)?);
+// A minimal machine's row: its access words and its separating words; any other row is no such case.
+pub fn words(case: Case) -> Result<String, NoAnswer> {
+    let row = case.row()?;
+    let machine = Machine::read(&row).context("no machine")?;
+    let cover = Cover::of(MinimalMachine::check(machine).context("not minimal")?);
     let access = words_text(case.heap, &cover.access)?;
     let separating = words_text(case.heap, &cover.separating)?;
     Ok(format!(in case.heap; "{access} | {separating}")?)

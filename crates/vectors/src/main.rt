@@ -11,6 +11,7 @@ use anyhow::{Error, anyhow};
 use cases::{Case, NoAnswer};
 use std::io::Read;
 use std::str::FromStr;
+use text::Told;
 
 // What is asked of the cases.
 #[derive(Clone, Copy)]
@@ -46,7 +47,7 @@ impl FromStr for Kind {
 }
 
 impl Kind {
-    // The answer to a case of this kind.
+    // The answer to a case of this kind; a match, since a table of functions would be no shorter, and the compiler sees that no kind is left out.
     fn answer(self, case: Case) -> Result<String, NoAnswer> {
         match self {
             Kind::Read => machines::read(case),
@@ -62,12 +63,11 @@ impl Kind {
     }
 }
 
+// Prints the answer to a case, or the refusal.
 fn run_case(rt: &(impl Print + AllocGlobal), kind: Kind, line: &str) -> anyhow::Result<()> {
     match kind.answer(Case::of(rt.alloc(), line)) {
         Ok(answer) => println!(rt; "{answer}")?,
-        Err(NoAnswer::Refused(refusal)) => {
-            println!(rt; "{} {}", refusal.number(), refusal.place())?;
-        }
+        Err(NoAnswer::Refused(refusal)) => println!(rt; "{}", Told(refusal))?,
         Err(NoAnswer::Failed(error)) => return Err(error),
     }
     Ok(())

@@ -1,5 +1,16 @@
-// Rows and words as text.
+// Rows, words and refusals as text.
+use machine::Refusal;
 use std::fmt;
+
+// A refusal as it is told here: its number and its place alone.
+#[derive(Clone, Copy)]
+pub struct Told(pub Refusal);
+
+impl fmt::Display for Told {
+    fn fmt<W: fmt::Write>(&self, f: &mut fmt::Formatter<W>) -> fmt::Result {
+        write!(f, "{} {}", self.0.number(), self.0.place())
+    }
+}
 
 // Numbers, or words, with blanks between them.
 #[derive(Drop)]
