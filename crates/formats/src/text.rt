@@ -19,7 +19,7 @@ impl fmt::Display for WordText<'_> {
             return write!(f, "-");
         }
         for key in self.0 {
-            write!(f, "{}", *key % 10)?;
+            write!(f, "{}", char::from(b'0' + (*key % 10) as u8))?;
         }
         Ok(())
     }

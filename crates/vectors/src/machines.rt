@@ -36,8 +36,9 @@ fn words_text(heap: Global, words: &[Word]) -> Result<String, AllocError> {
 // A minimal machine's row: its access words and its separating words; any other row is no such case.
 pub fn words(case: Case) -> Result<String, NoAnswer> {
     let row = case.row()?;
-    let machine = Machine::read(&row).context("no machine")?;
-    let cover = Cover::of(MinimalMachine::check(machine).context("not minimal")?);
+    let machine = Machine::read(&row).ok().context("no machine")?;
+    let minimal = MinimalMachine::check(machine).ok().context("not minimal")?;
+    let cover = Cover::of(minimal);
     let access = words_text(case.heap, &cover.access)?;
     let separating = words_text(case.heap, &cover.separating)?;
     Ok(format!(in case.heap; "{access} | {separating}")?)
