@@ -5,7 +5,7 @@ ghost use Rattle.formats.specs.Text.{word_text};
 
 use crate::failures::Failure;
 use std::alloc::{AllocError, Global};
-use std::{fmt, io};
+use std::fmt;
 
 // A word as it is printed: a digit for each key, a dash for the empty word.
 #[derive(Clone, Copy)]
@@ -33,12 +33,12 @@ pub fn word_text(heap: Global, word: &[u64]) -> Result<String, AllocError>
 }
 
 // An answer or a refusal as a line; want of memory is an error, and no line. What a write writes, no contract of std tells.
-pub fn print_answer(rt: &impl Print, answer: Result<String, Failure>) -> io::Result<()>
+pub fn print_answer(rt: &impl Print, answer: Result<String, Failure>) -> anyhow::Result<()>
     ensures { answer ≡ Err OutOfMemory → IsErr result }
 {
     match answer {
-        Ok(text) => rt.println(text),
+        Ok(text) => Ok(rt.println(text)?),
         Err(Failure::OutOfMemory) => Err(AllocError.into()),
-        Err(refused) => rt.println(refused),
+        Err(refused) => Ok(rt.println(refused)?),
     }
 }

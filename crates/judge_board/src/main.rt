@@ -52,6 +52,5 @@ fn answer(heap: Global, bytes: &[u8]) -> Result<String, Failure> {
 fn main(rt: HostRuntime) -> anyhow::Result<()> {
     let mut bytes = Vec::new(rt.alloc());
     rt.stdin().read_to_end(&mut bytes)?;
-    formats::print_answer(&rt, answer(rt.alloc(), &bytes))?;
-    Ok(())
+    formats::print_answer(&rt, answer(rt.alloc(), &bytes))
 }

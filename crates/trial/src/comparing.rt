@@ -30,7 +30,7 @@ pub struct Judge {
 }
 
 impl Judge {
-    // A judge with room for 16,384 numbers, as more no tests here take.
+    // A judge with room for 16,384 numbers: no tests of the trial need more.
     pub fn new(heap: Global) -> Result<Judge, AllocError> {
         Ok(Judge {
             heap,
