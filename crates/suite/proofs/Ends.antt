@@ -5,11 +5,18 @@ use Rattle.arrayvec.specs.ArrayVec.{ArrayVec}
 use Rattle.cover.specs.Words.{word_of, words_of}
 use Rattle.machine.specs.Machine.{Word}
 use Rattle.suite.specs.declared.values.Against.{Against}
-use Rattle.suite.specs.Enumeration.{Fed, fresh_of, marked, ends_marked, longer}
+use Rattle.suite.specs.declared.values.Known.{Known}
+use Rattle.suite.specs.Enumeration.{Fed, Knows, fresh_of, ends_marked}
 use Rattle.suite.specs.Kept.{some_parts, repeats}
-use Rattle.suite.proofs.Any.{any_words}
-use Rattle.suite.proofs.Feeding.{fed_append, fed_one, fed_same, fresh_repeated, fresh_new}
-use Rattle.suite.proofs.Repeats.{repeats_found}
+use Rattle.suite.proofs.Feeding.{fed_append, fed_one, fed_same, fresh_none, fresh_repeated, fresh_new}
+use Rattle.suite.proofs.Repeats.{repeats_found, begun_repeats}
+
+-- if ends behind f start at a marked place, nothing is handed on
+pub none_new : (a : Against) (known : Known) (f : Word) → length f ≡ a.own + a.between → Knows a known f → get_or known.marks (length f) false ≡ true → fresh_of a f (words_of a.ends.now) ≡ []
+none_new a known f full knows mark =
+    let room = a.room in
+    fresh_none a.extra (words_of a.ends.now) (words_of a.earlier.now) a.own a.between f (words_of a.ends.now)
+    (λ w inside. begun_repeats a.extra a.between a.own (words_of a.ends.now) (words_of a.earlier.now) f w full (sym (knows.places (length f) (omega arith)) ∙ mark) inside)
 
 -- a beginning f, and behind it the end x
 module _ (a : Against) (f : Word) (x : ArrayVec ℕ) (full : length f ≡ a.own + a.between) (short : length (word_of x) ≤ 16) where
@@ -23,17 +30,15 @@ module _ (a : Against) (f : Word) (x : ArrayVec ℕ) (full : length f ≡ a.own 
 
   -- what the code finds is whether the word has come up before
   pub came_up :
-      (c : Word) (at : List Bool) (l r : Bool) →
-      ((m : ℕ) → m < 36 → get_or at m false ≡ marked a.extra earlier a.own a.between f m) →
-      l ≡ list_any (λ p. longer f (word_of p)) a.earlier.now → c ≡ f ++ word_of x →
-      r ≡ (list_any (ends_marked at c) ends || (l && some_parts (suc a.extra) ends earlier c)) →
+      (c : Word) (known : Known) (r : Bool) → Knows a known f → c ≡ f ++ word_of x →
+      r ≡ (list_any (ends_marked known.marks c) ends || (known.longer && some_parts (suc a.extra) ends earlier c)) →
       r ≡ repeats a.extra ends earlier (take a.own f) a.between (f ++ word_of x)
-  came_up c at l r places long whole found =
-      found ∙ ap (λ z. list_any (ends_marked at z) ends || (l && some_parts (suc a.extra) ends earlier z)) whole
-      ∙ repeats_found a.extra a.between a.own ends earlier f (word_of x) at l
+  came_up c known r knows whole found =
+      found ∙ ap (λ z. list_any (ends_marked known.marks z) ends || (known.longer && some_parts (suc a.extra) ends earlier z)) whole
+      ∙ repeats_found a.extra a.between a.own ends earlier f (word_of x) known.marks known.longer
       (omega arith)
       (let room = a.room in omega (arith, length-append f (word_of x)))
-      places (long ∙ sym (any_words (longer f) a.earlier.now))
+      knows.places knows.longer
 
   module _ {S : Type 0} (step : S → Word → S → Type 0) (i : ℕ) (inside : i < length a.ends.now) (is : x ≡ get_or a.ends.now i x) (s t : S)
       (fed : Fed step (fresh_of a f (take i ends)) s t) where

@@ -1,6 +1,7 @@
 -- Handing words on, one list after the other, and the lists that the enumeration is made of. Assumes nothing.
 use Rattle.std.proofs.Common.{◌≡◌, ℕ, ◌+◌, ◌<◌, ◌≤◌, true, false, cond, not, List, [], ◌∷◌, ◌++◌, length, get_or, take, sym, refl, ap, ◌∙◌, subst, arith}
 use lib.ListN.{length-map}
+use mathlib.Core.List.Memᴰ
 use Rattle.std.proofs.lemmas.List.Elements.{filter-append}
 use Rattle.std.proofs.lemmas.List.{append-nil, map-append, take_more, take-append-le}
 use Rattle.arrayvec.specs.ArrayVec.{ArrayVec}
@@ -9,6 +10,7 @@ use Rattle.machine.specs.Machine.{Word}
 use Rattle.machine.specs.Words.{each_behind}
 use Rattle.suite.specs.Enumeration.{Fed, fresh_behind}
 use Rattle.suite.specs.Kept.{repeats, without}
+use Rattle.suite.proofs.Members.{In}
 use Rattle.suite.proofs.Places.{word_at}
 use Rattle.suite.proofs.TakenApart.{each_behind_append}
 
@@ -51,6 +53,14 @@ module _ (e : ℕ) (ends earlier : List Word) (own j : ℕ) (f : Word) where
   fresh_front u ws h =
       ap (without (repeats e ends earlier (take own f) j)) (sym (each_behind_append f u ws))
       ∙ ap (λ v. without (repeats e ends earlier v j) (each_behind (f ++ u) ws)) (sym (take-append-le own f u h))
+
+  -- if each of some words makes one that has come up before, none of them is new
+  pub fresh_none : (ws : List Word) → ((w : Word) → In w ws → repeats e ends earlier (take own f) j (f ++ w) ≡ true) → fresh_behind e ends earlier own j f ws ≡ []
+  unfolding fresh_behind
+  fresh_none [] h = refl
+  fresh_none (w ∷ ws) h =
+      let rest = without (repeats e ends earlier (take own f) j) (each_behind f ws) in
+      ap (λ b. cond (not b) ((f ++ w) ∷ rest) rest) (h w (Memᴰ.head refl)) ∙ fresh_none ws (λ v m. h v (Memᴰ.tail m))
 
   -- one end more
   module _ (ws : List (ArrayVec ℕ)) (i : ℕ) (x : ArrayVec ℕ) (inside : i < length ws) (is : x ≡ get_or ws i x) where

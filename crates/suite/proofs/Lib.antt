@@ -4,6 +4,7 @@ pub mod Different
 pub mod Equivalents
 pub mod Ends
 pub mod Feeding
+mod Knowing
 mod Levels
 pub mod Members
 pub mod Once

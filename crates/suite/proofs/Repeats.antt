@@ -1,7 +1,7 @@
 -- A word has come up before exactly if it ends at a marked place, or can be taken apart with a longer word in front. Assumes nothing.
 use Rattle.std.specs.List.{list_any}
-use Rattle.std.proofs.Common.{◌≡◌, ℕ, suc, ◌+◌, ◌-◌, ◌<◌, ◌≤◌, Bool, true, false, ◌&&◌, ◌||◌, ltb, leb, ◌⊎◌, List, ◌++◌, length, get_or, take, drop, sym, refl, ap, ◌∙◌, inl, inr, arith, length-take}
-use Rattle.std.proofs.lemmas.List.{take-append-le, take-take, take_at}
+use Rattle.std.proofs.Common.{◌≡◌, ℕ, suc, ◌+◌, ◌-◌, ◌<◌, ◌≤◌, Bool, true, false, ◌&&◌, ◌||◌, ltb, leb, ◌⊎◌, List, ◌++◌, length, get_or, take, drop, sym, refl, ap, ◌∙◌, inl, inr, arith, length-append, length-take}
+use Rattle.std.proofs.lemmas.List.{take-append-le, take-take, take_at, drop_at}
 use Rattle.std.proofs.lemmas.Bool.{cases_lt, and_parts, and_from, or_cases, or_left, or_right, leb-true, le-leb, ltb-true, lt-ltb}
 use Rattle.machine.specs.Machine.{Word}
 use Rattle.machine.specs.Words.{same}
@@ -13,7 +13,7 @@ use Rattle.suite.proofs.Members.{In, same_true, eq_same}
 use Rattle.suite.proofs.TakenApart.{Ends, ends_true, ends_from}
 
 -- if c begins with p, its first keys are p
-begins_true : (p c : Word) → begins p c ≡ true → p ≡ take (length p) c
+pub begins_true : (p c : Word) → begins p c ≡ true → p ≡ take (length p) c
 unfolding begins
 begins_true p c h = same_true p (take (length p) c) h
 
@@ -57,9 +57,14 @@ unfolding marks
 marks_from n f m p e l g = and_from (begins p f) (within (length p) n m) (begins_from p f e) (within_from (length p) n m l g)
 
 -- a longer word that begins with f goes on from it
-longer_from : (f p : Word) → length f < length p → f ≡ take (length f) p → longer f p ≡ true
+pub longer_from : (f p : Word) → length f < length p → f ≡ take (length f) p → longer f p ≡ true
 unfolding longer
 longer_from f p l e = and_from (ltb (length f) (length p)) (begins f p) (lt-ltb (length f) (length p) l) (begins_from f p e)
+
+-- and the other way round
+pub longer_true : (f p : Word) → longer f p ≡ true → (length f < length p) × (f ≡ take (length f) p)
+unfolding longer
+longer_true f p h = let r = and_parts (ltb (length f) (length p)) (begins f p) h in (ltb-true (length f) (length p) r.0, begins_true f p r.1)
 
 -- if c ends with z at a marked place: z is no longer than c, its place has a mark, and c ends with it
 ends_marked_true : (at : List Bool) (c z : Word) → ends_marked at c z ≡ true → (length z ≤ length c) × (get_or at (length c - length z) false ≡ true) × (z ≡ drop (length c - length z) c)
@@ -73,6 +78,26 @@ ends_marked_true at c z h =
 ends_marked_from : (at : List Bool) (c z : Word) → length z ≤ length c → get_or at (length c - length z) false ≡ true → z ≡ drop (length c - length z) c → ends_marked at c z ≡ true
 unfolding ends_marked
 ends_marked_from at c z l y e = and_from (leb (length z) (length c)) _ (le-leb (length z) (length c) l) (and_from (get_or at (length c - length z) false) (same z (drop (length c - length z) c)) y (eq_same z (drop (length c - length z) c) e))
+
+-- behind a beginning that has all its keys, whatever ends at a marked place has come up before
+pub begun_repeats :
+    (e j own : ℕ) (ws earlier : List Word) (f w : Word) → length f ≡ own + j → marked e earlier own j f (length f) ≡ true → In w ws →
+    repeats e ws earlier (take own f) j (f ++ w) ≡ true
+unfolding marked repeats
+begun_repeats e j own ws earlier f w full mark inside = elim (or_cases (within own j (length f)) (list_any (marks (suc e) f (length f)) earlier) mark) [
+  | inl h ↦ absurd (let r = (within_true own j (length f) h).1 in omega (arith, r))
+  | inr h ↦
+      let r = any_true (marks (suc e) f (length f)) earlier h in
+      let p = r.0 in
+      let m = marks_true (suc e) f (length f) p r.2 in
+      let least = m.1 in
+      let most = m.2 in
+      let long = length-append f w in
+      let at : length (f ++ w) - length w ≡ length f = omega (arith, long) in
+      or_left _ _ (any_from (λ q. parts (suc e) ws q (f ++ w)) earlier p r.1
+      (parts_from (suc e) ws p (f ++ w) w (m.0 ∙ sym (take-append-le (length p) f w least)) inside
+      (record { room = omega (arith, long, least); close = omega (arith, long, most); end = sym (drop_at f w _ (sym at)) })))
+]
 
 module _ (e j own : ℕ) (ws earlier : List Word) (f w : Word) (at : List Bool) (l : Bool)
     (inside : own ≤ length f) (short : length (f ++ w) < 36)

@@ -1,10 +1,11 @@
 -- What the enumeration of the tests does: which words it hands on, and to what. Assumes nothing: these are definitions.
 use Rattle.std.specs.List.{list_any}
-use Rattle.std.specs.Prelude.{◌≡◌, ℕ, suc, ◌+◌, ◌-◌, Bool, false, ◌&&◌, ◌||◌, List, [], ◌∷◌, length, take, drop, nat_le, nat_lt, slice_index_or}
+use Rattle.std.specs.Prelude.{◌≡◌, ℕ, suc, ◌+◌, ◌-◌, ◌<◌, Bool, false, ◌&&◌, ◌||◌, List, [], ◌∷◌, length, take, drop, nat_le, nat_lt, slice_index_or}
 use Rattle.cover.specs.Words.{words_of}
 use Rattle.machine.specs.Machine.{Word}
 use Rattle.machine.specs.Words.{each_behind, same}
 use Rattle.suite.specs.declared.values.Against.{Against}
+use Rattle.suite.specs.declared.values.Known.{Known}
 use Rattle.suite.specs.Kept.{begins, repeats, without}
 
 -- handing some words on, one after the other, leads from s to t
@@ -39,3 +40,8 @@ ends_marked at c w = nat_le (length w) (length c) && (slice_index_or at (length 
 -- p is longer than f, and begins with it
 unfoldable pub longer : Word → Word → Bool
 longer f p = nat_lt (length f) (length p) && begins f p
+
+-- what is known of tests that begin with f is right: which places are marked, and whether an earlier word in front is longer than f and begins with it
+pub record Knows (a : Against) (known : Known) (f : Word) : Type 0 where
+  pub places : (m : ℕ) → m < 36 → slice_index_or known.marks m false ≡ marked a.extra (words_of a.earlier.now) a.own a.between f m
+  pub longer : known.longer ≡ list_any (longer f) (words_of a.earlier.now)

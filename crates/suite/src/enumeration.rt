@@ -4,39 +4,42 @@ ghost use Rattle.std.specs.Prelude.{◌≡◌, suc, ◌+◌, ◌≤◌, ◌&&◌
 ghost use Rattle.arrayvec.specs.ArrayVec.{array_vec_len};
 ghost use Rattle.cover.specs.Words.{word_of, words_of};
 ghost use Rattle.machine.specs.Words.{products, of_length};
-ghost use Rattle.suite.specs.Enumeration.{Fed, ends_marked, fresh_of};
+ghost use Rattle.suite.specs.Enumeration.{Fed, Knows, ends_marked, fresh_of};
 ghost use Rattle.suite.specs.Factors.{ends_in, made_of};
 ghost use Rattle.suite.specs.Kept.{some_parts, kept_behind};
 
-use crate::apart::{some_end_marked, some_longer, some_parts};
+use crate::apart::{some_end_marked, some_parts};
 use crate::factors::Factors;
 use crate::sink::Sink;
-use crate::values::{Against, Candidate, Marks};
+use crate::values::{Against, Candidate, Known};
 use cover::Word;
 
 impl Against<'_> {
     // Whether a test has come up before: it ends at a marked place or, if there are longer words in front, can be taken apart with one.
-    fn repeated(self, marks: &Marks, longer: bool, test: &Candidate) -> bool
-        ensures { result ≡ (list_any (ends_marked marks.now test.now.items) (words_of self.entry.ends.now) || (longer && some_parts (suc self.entry.extra) (words_of self.entry.ends.now) (words_of self.entry.earlier.now) test.now.items)) }
+    fn repeated(self, known: &Known, test: &Candidate) -> bool
+        ensures { result ≡ (list_any (ends_marked known.now.marks test.now.items) (words_of self.entry.ends.now) || (known.now.longer && some_parts (suc self.entry.extra) (words_of self.entry.ends.now) (words_of self.entry.earlier.now) test.now.items)) }
     {
-        if some_end_marked(marks, self.ends, test) {
+        if some_end_marked(&known.marks, self.ends, test) {
             return true;
         }
-        longer && some_parts(self.extra + 1, self.earlier, self.ends, test.as_slice())
+        known.longer && some_parts(self.extra + 1, self.earlier, self.ends, test.as_slice())
     }
 
     // Hands on every end behind the beginning of a test.
-    fn each_end<S: Sink>(self, test: &mut Candidate, sink: &mut S)
-        requires { array_vec_len test.old ≡ self.own + self.between }
+    fn each_end<S: Sink>(self, known: &Known, test: &mut Candidate, sink: &mut S)
+        requires whole { array_vec_len test.old ≡ self.own + self.between }
+        requires known { Knows self known.now test.old.items }
         ensures fed { Fed S.step (fresh_of self.entry test.old.items (words_of self.entry.ends.now)) sink.old sink.new }
         ensures stays { test.new.items ≡ test.old.items }
     {
         let begun = test.len();
-        let marks = self.marks_behind(test.as_slice());
-        let longer = some_longer(self.earlier, test.as_slice());
+        // Every end would start at a marked place.
+        if known.marks[begun] {
+            return;
+        }
         for end in self.ends {
             test.try_extend_from_slice(end.as_slice()).unwrap();
-            if !self.repeated(&marks, longer, test) {
+            if !self.repeated(known, test) {
                 sink.put(test.as_slice());
             }
             test.truncate(begun);
@@ -44,19 +47,21 @@ impl Against<'_> {
     }
 
     // Hands on every word of `left` keys behind the beginning of a test, and every end behind that.
-    fn each_between<S: Sink>(self, test: &mut Candidate, left: usize, sink: &mut S)
+    fn each_between<S: Sink>(self, known: &Known, test: &mut Candidate, left: usize, sink: &mut S)
+        requires known { Knows self known.now test.old.items }
         requires room { array_vec_len test.old + left ≡ self.own + self.between }
         requires behind { self.own ≤ array_vec_len test.old }
         ensures fed { Fed S.step (fresh_of self.entry test.old.items (products (of_length self.entry.keys left) (words_of self.entry.ends.now))) sink.old sink.new }
         ensures stays { test.new.items ≡ test.old.items }
     {
         if left == 0 {
-            self.each_end(test, sink);
+            self.each_end(known, test, sink);
             return;
         }
         for key in 0..self.keys {
             test.push(key);
-            self.each_between(test, left - 1, sink);
+            let more = self.known_behind(known, test.as_slice());
+            self.each_between(&more, test, left - 1, sink);
             test.pop();
         }
     }
@@ -79,7 +84,8 @@ impl Factors {
                 between,
                 extra: self.extra,
             };
-            against.each_between(&mut test, between, sink);
+            let known = against.known_of(own);
+            against.each_between(&known, &mut test, between, sink);
         }
     }
 

@@ -24,3 +24,11 @@ pub struct Against<'a> {
     // The bound stands with each number of extra states: a type for it alone would only be taken apart again.
     ghost few_extra: { extra ≤ 3 },
 }
+
+// What the first keys of a test tell: at which places an end shows that it has come up before, and whether an earlier word in front goes on
+// behind these keys.
+#[derive(Clone, Copy)]
+pub struct Known {
+    pub marks: Marks,
+    pub longer: bool,
+}

@@ -5,8 +5,8 @@ use Rattle.suite.proofs.values.Against.repeated.Goals as goal
 pub returns-then-some_end_marked : goal.returns-then-some_end_marked
 returns-then-some_end_marked c = grind (arith, any_words)
 
-pub returns-then-longer : goal.returns-then-longer
-returns-then-longer c = grind (arith, any_words)
+pub returns-then-known : goal.returns-then-known
+returns-then-known c = grind (arith, any_words)
 
-pub returns-else-longer : goal.returns-else-longer
-returns-else-longer c = grind (arith, any_words)
+pub returns-else-known : goal.returns-else-known
+returns-else-known c = grind (arith, any_words)
