@@ -30,7 +30,7 @@ pub(crate) fn separating(m: MinimalMachine) -> ArrayVec<Word, 120>
     for s in 0..m.machine.states() {
         'pairs: for t in 0..s {
             let word = levels.telling_word(t, s);
-            // Nested loops over states are left by their label.
+            // The loops have names, which their proofs are told under.
             if is_among(&word, &words) {
                 continue 'pairs;
             }

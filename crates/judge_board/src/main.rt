@@ -6,7 +6,7 @@ use std::alloc::{AllocError, Global};
 use std::io::Read;
 use verdict::Verdict;
 
-// The verdict on what was shown, in bytes.
+// The verdict on what was shown, in bytes. The heap is lent to each function that takes memory, as the library has it.
 fn verdict_on(heap: Global, row: &[u64], extra: u64, bytes: &[u8]) -> Result<Verdict, Failure> {
     let mut shown = formats::numbers(heap, bytes)?;
     let verdict = verdict::judge(row, extra, &shown)?;
@@ -34,6 +34,7 @@ fn verdict_text(
             expected,
         } => {
             let tests = formats::tests_row(heap, row, extra)?;
+            // The test is there: the verdict is on these tests.
             let word = WordText(suite::tests_in(&tests).nth(test as usize).unwrap_or(&[]));
             Ok(format!(in heap; "failed {word} at {key}: {shown} for {expected}")?)
         }
@@ -49,6 +50,7 @@ fn answer(heap: Global, bytes: &[u8]) -> Result<String, Failure> {
     verdict_text(heap, &row, extra, verdict)
 }
 
+// As the `main` of write_tests but for `answer`: one function over both would have to ask that any input may be answered, and its proof did not close.
 fn main(rt: HostRuntime) -> anyhow::Result<()> {
     let mut bytes = Vec::new(rt.alloc());
     rt.stdin().read_to_end(&mut bytes)?;

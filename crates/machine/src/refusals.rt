@@ -6,7 +6,7 @@ ghost use Rattle.machine.specs.Told.{refusal_text};
 use std::error::Error;
 use std::fmt;
 
-// Each case holds its place; `reason_of` of specs/Refusals.antt gives its number.
+// Each case holds its place; `reason_of` of specs/Refusals.antt gives its number. Where a place is 2^32 for all that is more, the list of refusals has it so.
 #[derive(Clone, Copy, Debug, PartialEq, Eq)]
 pub enum Refusal {
     // The machine is cut short, or its number of states or keys is out of bounds: its length, or that number.

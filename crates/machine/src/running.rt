@@ -36,6 +36,7 @@ impl Machine<'_> {
     }
 
     // What a key does in a state: it leads to state 0 and shows 0 where the state or the key is not there, for a move is total.
+    // That an output is below 2^32 is a clause wherever one is answered: a type for it would only be taken apart again.
     pub fn step(self, state: usize, key: usize) -> Step
         ensures to { result.to ≡ (move (model self.entry) state key).to }
         ensures output { result.output ≡ (move (model self.entry) state key).output }
@@ -86,6 +87,7 @@ impl Machine<'_> {
         let mut state = 0;
         for (i, key) in word.iter().enumerate() {
             let step = self.step(state, *key as usize);
+            // By place: with `get` the proof did not close.
             if i >= seen.len() || seen[i] != step.output {
                 return Some(Difference {
                     key: i,
@@ -98,7 +100,8 @@ impl Machine<'_> {
     }
 }
 
-// The word that stands in a row with its length in front: the keys that are there, if the row ends before. Behind the row there is no key.
+// The word that stands in a row with its length in front: the keys that are there, if the row ends before. Behind the row there is no key,
+// for it has an answer for every row.
 pub fn word_at(row: &[u64], at: usize) -> &[u64]
     ensures { result.now ≡ word_in row.now at }
 {

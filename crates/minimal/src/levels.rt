@@ -9,6 +9,7 @@ use crate::classes::Classes;
 use machine::Machine;
 use std::array;
 
+// That the machine stays is a clause of each function that makes classes: no type says it more plainly.
 impl<'a> Classes<'a> {
     // Every state in one class: without a key all show the same.
     fn together(machine: Machine<'a>) -> Classes<'a>
@@ -44,6 +45,7 @@ impl<'a> Classes<'a> {
         ensures { result ≡ finer (keys_of self.entry.machine) (model self.entry.machine) self.entry.of state }
     {
         let m = self.machine;
+        // Nested loops over states and keys are left by their label.
         'others: for other in 0..state {
             for key in 0..m.keys() {
                 let same_output = m.output(other, key) == m.output(state, key);
@@ -70,6 +72,7 @@ impl<'a> Classes<'a> {
     }
 
     // The classes of equivalent states: states that differ do so on a word with fewer keys than there are states, so that many rounds less one are enough.
+    // `Levels` of cover is made in as many rounds, of other tables.
     pub(crate) fn of_equivalent(machine: Machine<'a>) -> Classes<'a>
         ensures machine { result.machine ≡ machine.entry }
         ensures level { AtLevel (keys_of machine.entry) (model machine.entry) (length (model machine.entry) - 1) result.of }

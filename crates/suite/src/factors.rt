@@ -14,5 +14,6 @@ pub struct Factors {
     pub cover: Cover,
     pub keys: u64,
     pub extra: usize,
+    // This bound stands with each number of extra states: see `Against`.
     ghost few_extra: { extra ≤ 3 },
 }

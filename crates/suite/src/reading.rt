@@ -24,6 +24,7 @@ impl<'a> Iterator for Tests<'a> {
         if self.left == 0 {
             return None;
         }
+        // As `word_at` reads a word at a place of a row; here the rest is wanted too, and one function for both is no plainer.
         let (length, behind) = self.rest.split_first()?;
         let (test, rest) = behind.split_at(behind.len().min(*length as usize));
         self.left -= 1;

@@ -26,7 +26,7 @@ pub(crate) fn write_suite(factors: &Factors, out: &mut [u64]) -> Result<u64, Ref
     Ok(tally.tests)
 }
 
-// The test that stands at a place of a row: a part of the row, behind its length. It is `word_at` by a tester's name.
+// The test that stands at a place of a row: a part of the row, behind its length. It is `word_at` by a tester's name, a public call.
 pub fn test_at(row: &[u64], place: usize) -> &[u64]
     ensures { result.now ≡ word_in row.now place }
 {

@@ -8,5 +8,6 @@ use minimal::MinimalMachine;
 pub struct Specification<'a> {
     pub machine: MinimalMachine<'a>,
     pub extra: usize,
+    // This bound stands with each number of extra states: see `Against`.
     pub ghost few_extra: { extra ≤ 3 },
 }

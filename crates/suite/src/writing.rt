@@ -14,7 +14,8 @@ use minimal::MinimalMachine;
 // How many states more than its specification an implementation may be tested for.
 const MOST_EXTRA: u64 = 3;
 
-// The minimal machine in a row with so many extra states, or why there are no tests for it.
+// The minimal machine in a row with so many extra states, or why there are no tests for it. A row and extra states are two parameters in every
+// public call: so it is told to other languages.
 pub fn prepare(row: &[u64], extra: u64) -> Result<Specification<'_>, Refusal>
     ensures { Prepared row.now extra result }
 {

@@ -11,6 +11,7 @@ pub struct Move {
     pub output: u64,
 }
 
+// Each function that takes memory is lent the heap, as the library has it, and `Random` is no part of a board.
 // A machine of at most five states and three keys: for each state a move for each key; state 0 is the beginning.
 #[derive(Drop)]
 pub struct Board {
@@ -21,7 +22,7 @@ pub struct Board {
     ghost few_states: { (0 < vec_len states) × (vec_len states ≤ 5) },
 }
 
-// By hand, since `Clone` cannot be derived on a struct with a ghost field.
+// By hand: on a struct with ghost fields `Clone` is derived only with `Copy`.
 impl Clone for Board {
     ghost is_clone = { λ board copy. vec_len copy.states ≡ vec_len board.states };
 

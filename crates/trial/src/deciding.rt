@@ -35,6 +35,7 @@ fn add_shown(board: &Board, test: &[u64], all: &mut Vec<u64>) -> Result<(), Allo
     let mut state = 0;
     for key in test {
         let Some(step) = board.moves(state).get(*key as usize) else {
+            // No test has a key that the board has not.
             break;
         };
         all.push(step.output)?;

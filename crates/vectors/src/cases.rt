@@ -49,7 +49,7 @@ impl<'a> Case<'a> {
     }
 }
 
-// Why a case has no other answer.
+// Why a case has no other answer. `formats::Failure` has nothing for a case that is no case.
 #[derive(Drop)]
 pub enum NoAnswer {
     // The request is refused.

@@ -76,6 +76,7 @@ fn run_case(rt: &(impl Print + AllocGlobal), kind: Kind, line: &str) -> anyhow::
 fn main(rt: HostRuntime) -> anyhow::Result<()> {
     let mut input = String::new(rt.alloc());
     rt.stdin().read_to_string(&mut input)?;
+    // Cases before any heading are rows to be read.
     let mut kind = Kind::Read;
     for line in input.lines() {
         if let Some(name) = line.strip_prefix("== ") {

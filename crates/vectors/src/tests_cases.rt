@@ -29,7 +29,7 @@ pub fn tests(mut case: Case) -> Result<String, NoAnswer> {
 // A row and the extra states: how many tests, how many numbers they take, and a checksum of the written row.
 pub fn large(mut case: Case) -> Result<String, NoAnswer> {
     let row = tests_row(&mut case)?;
-    let count = row.first().copied().unwrap_or(0);
+    let count = suite::tests_in(&row).count();
     Ok(format!(in case.heap; "{count} {} {}", row.len(), checksum(&row))?)
 }
 
@@ -43,7 +43,7 @@ pub fn refusal(mut case: Case) -> Result<String, NoAnswer> {
     Ok(format!(in case.heap; "{count} tests")?)
 }
 
-// A row, the extra states and what was shown: the verdict.
+// A row, the extra states and what was shown: the verdict, with the failed test by its number, where judge_board prints its keys.
 pub fn verdict(mut case: Case) -> Result<String, NoAnswer> {
     let row = case.numbers()?;
     let extra = case.number()?;

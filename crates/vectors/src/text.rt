@@ -36,7 +36,7 @@ pub fn checksum(row: &[u64]) -> u64 {
     })
 }
 
-// The row of the machine of so many states that stands at the front of a row.
+// The row of the machine of so many states that stands at the front of a row; the whole row if it is too short, which a written one never is.
 pub fn machine_row(row: &[u64], states: u64) -> &[u64] {
     let keys = row.get(1).copied().unwrap_or(0);
     let needed = states

@@ -24,6 +24,7 @@ fn answer(heap: Global, bytes: &[u8]) -> Result<String, Failure> {
     Ok(lines(heap, &tests)?)
 }
 
+// As the `main` of judge_board but for `answer`: one function over both would have to ask that any input may be answered, and its proof did not close.
 fn main(rt: HostRuntime) -> anyhow::Result<()> {
     let mut bytes = Vec::new(rt.alloc());
     rt.stdin().read_to_end(&mut bytes)?;
