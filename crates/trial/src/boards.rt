@@ -11,8 +11,8 @@ pub struct Move {
     pub output: u64,
 }
 
-// Each function that takes memory is lent the heap, as the library has it, and `Random` is no part of a board.
-// A machine of at most five states and three keys: for each state a move for each key; state 0 is the beginning.
+// A machine of at most five states and three keys: for each state a move for each key; state 0 is the beginning. Heap and chance are lent to
+// what makes one, as the library lends the heap.
 #[derive(Drop)]
 pub struct Board {
     keys: usize,
