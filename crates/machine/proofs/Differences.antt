@@ -1,25 +1,27 @@
 -- The first key at which something else was seen than a machine shows. Assumes nothing.
-use Rattle.std.proofs.Common.{◌≡◌, ℕ, ◌<◌, ◌≤◌, true, false, List, length, get_or, Some, None, ap, inl, inr, arith}
+use Rattle.std.specs.Option.{option_eq, is_some, IfSome}
+use Rattle.std.proofs.lemmas.Grind.{get_or_default_zero}
+use Rattle.std.proofs.Common.{not, eqb, leb, ltb, ◌||◌, Option, sym, ◌∙◌, ◌≡◌, ℕ, ◌<◌, true, false, List, length, get_or, Some, None, ap, inl, inr, arith}
 use Rattle.std.proofs.lemmas.List.{ext_get_or}
-use Rattle.std.proofs.lemmas.Bool.{le-leb, lt-leb, eq-eqb, ne_eqb, eqb-true, or_left, or_right, or_from, or_parts, not-false, not_from_true, not_from_false}
+use Rattle.std.proofs.lemmas.Bool.{ltb-true, ltb-false, le-leb, lt-leb, eq-eqb, eqb-true, or_from, or_parts, not-false, not_from_true}
 use Rattle.machine.specs.declared.running.Difference.{Difference}
 use Rattle.machine.specs.Machine.{Machine, Word, outputs}
 use Rattle.machine.specs.Run.{differs_at, at_key, difference}
 use Rattle.machine.proofs.First.{first_none, first_some, first_cases}
 use Rattle.machine.proofs.Runs.{length_outputs}
 
-module _ (expected seen : List ℕ) (i : ℕ) where
-  -- where nothing was seen there is a difference
-  pub unseen : length seen ≤ i → differs_at expected seen i ≡ true
-  unseen h = or_left _ _ (le-leb _ _ h)
+-- where the expected was seen there is no difference
+seen_same : (expected seen : List ℕ) (i : ℕ) → i < length seen → get_or seen i 0 ≡ get_or expected i 0 → differs_at expected seen i ≡ false
+seen_same expected seen i h e = or_from _ _ (lt-leb _ _ h) (not_from_true _ (eq-eqb _ _ e))
 
-  -- where something else was seen there is a difference
-  pub seen_other : (get_or seen i 0 ≡ get_or expected i 0 → ⊥) → differs_at expected seen i ≡ true
-  seen_other d = or_right _ _ (not_from_false _ (ne_eqb _ _ d))
-
-  -- where the expected was seen there is none
-  pub seen_same : i < length seen → get_or seen i 0 ≡ get_or expected i 0 → differs_at expected seen i ≡ false
-  seen_same h e = or_from _ _ (lt-leb _ _ h) (not_from_true _ (eq-eqb _ _ e))
+-- what was seen at a place, read by `get`, against what is expected there
+pub seen_at :
+    {B : Type 0} (value : B → ℕ) (seen : List ℕ) (i : ℕ) (x : B) (r : Option B) → is_some r ≡ ltb i (length seen) → IfSome r (λ b. value b ≡ get_or seen i (value b)) →
+    not (option_eq (λ a b. eqb (value a) (value b)) r (Some x)) ≡ (leb (length seen) i || not (eqb (get_or seen i 0) (value x)))
+seen_at value seen i x None e h = rw (le-leb _ _ (ltb-false i (length seen) (sym e)))
+seen_at value seen i x (Some b) e h =
+    let inside = ltb-true i (length seen) (sym e) in
+    ap (λ y. not (eqb y (value x))) (h ∙ get_or_default_zero seen i (value b) inside) ∙ ap (λ past. past || not (eqb (get_or seen i 0) (value x))) (sym (lt-leb _ _ inside))
 
 module _ (m : Machine) (w : Word) (seen : List ℕ) where
   -- if no key of the word differs there is no difference

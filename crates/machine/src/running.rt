@@ -87,8 +87,7 @@ impl Machine<'_> {
         let mut state = 0;
         for (i, key) in word.iter().enumerate() {
             let step = self.step(state, *key as usize);
-            // By place: with `get` the proof did not close.
-            if i >= seen.len() || seen[i] != step.output {
+            if seen.get(i) != Some(&step.output) {
                 return Some(Difference {
                     key: i,
                     expected: step.output,

@@ -1,28 +1,27 @@
-use Rattle.std.proofs.Common.{◌≡◌, true, get_or, sym, refl, ap, ◌∙◌, arith, below_more}
-use Rattle.machine.specs.Machine.{after, move, outputs}
+use Rattle.std.proofs.Common.{◌<◌, take, ℕ, List, not, eqb, leb, ◌||◌, length, ◌≡◌, true, get_or, sym, refl, ap, ◌∙◌, arith, below_more}
+use Rattle.machine.specs.Machine.{Machine, after, move, outputs}
 use Rattle.machine.specs.Run.{model, differs_at}
-use Rattle.machine.proofs.Differences.{unseen, seen_other, seen_same, difference_none, difference_some}
+use Rattle.machine.proofs.Differences.{seen_at, difference_none, difference_some}
 use Rattle.machine.proofs.Runs.{after_more, outputs_at}
 use Rattle.machine.proofs.view.Machine.first_difference.Goals as goal
-use Rattle.machine.proofs.view.Machine.first_difference.Goals.{then-i-seen-via-then-i-seen, then-i-seen-via-else-i-seen+then-seen-i}
 
 pub loop-i-init : goal.loop-i-init
 unfolding after
 loop-i-init c = (refl, λ j h. absurd (omega arith))
 
-pub returns-then-i-seen : goal.returns-then-i-seen
-returns-then-i-seen c =
+-- a key's output is what the machine shows at its place
+shown_at : (m : Machine) (w : List ℕ) (i state output : ℕ) → state ≡ after m 0 (take i w) → i < length w → output ≡ (move m state (get_or w i 0)).output → output ≡ get_or (outputs m 0 w) i 0
+shown_at m w i state output reached inside is = is ∙ ap (λ s. (move m s (get_or w i 0)).output) reached ∙ sym (outputs_at m 0 w i inside)
+
+pub returns-then-ne : goal.returns-then-ne
+returns-then-ne c =
     let m = model c.args.self in
     let w = c.args.word.now in
     let seen = c.args.seen.now in
     let i = c.loop-i.i in
-    let shows : c.step-step.result.output ≡ get_or (outputs m 0 w) i 0 =
-    c.step-step.ensures.output ∙ ap (λ s. (move m s (get_or w i 0)).output) c.loop-i.invariant.0 ∙ sym (outputs_at m 0 w i c.loop-i-test.true) in
+    let shows = shown_at m w i _ _ c.loop-i.invariant.0 c.loop-i-test.true c.step-step.ensures.output in
     let differs : differs_at (outputs m 0 w) seen i ≡ true =
-    elim c.then-i-seen.branch [
-      | then-i-seen-via-then-i-seen way ↦ unseen (outputs m 0 w) seen i way.if-i-seen.true
-      | then-i-seen-via-else-i-seen+then-seen-i way ↦ seen_other (outputs m 0 w) seen i (λ e. way.if-seen-i.true (e ∙ sym shows))
-    ] in
+    ap (λ x. leb (length seen) i || not (eqb (get_or seen i 0) x)) (sym shows) ∙ sym (c.ne.ensures ∙ seen_at (λ b. b.now) seen i _ c.get.result c.get.ensures.lookup.0 c.get.ensures.lookup.1) ∙ c.if-ne.true in
     let found = difference_some m w seen i c.loop-i-test.true differs c.loop-i.invariant.1 in
     cc
 
@@ -33,8 +32,9 @@ loop-i-preserved c =
     let i = c.loop-i.i in (
       c.step-step.ensures.to ∙ ap (λ s. (move m s (get_or w i 0)).to) c.loop-i.invariant.0 ∙ sym (after_more m 0 w i c.loop-i-test.true),
       below_more _ _ c.loop-i.invariant.1
-          (seen_same (outputs m 0 w) c.args.seen.now i c.if-i-seen.false
-          (c.if-seen-i.false ∙ c.step-step.ensures.output ∙ ap (λ s. (move m s (get_or w i 0)).output) c.loop-i.invariant.0 ∙ sym (outputs_at m 0 w i c.loop-i-test.true))),
+          (let shows = shown_at m w i _ _ c.loop-i.invariant.0 c.loop-i-test.true c.step-step.ensures.output in
+          ap (λ x. leb (length c.args.seen.now) i || not (eqb (get_or c.args.seen.now i 0) x)) (sym shows)
+          ∙ sym (c.ne.ensures ∙ seen_at (λ b. b.now) c.args.seen.now i _ c.get.result c.get.ensures.lookup.0 c.get.ensures.lookup.1) ∙ c.if-ne.false),
     )
 
 pub returns : goal.returns
