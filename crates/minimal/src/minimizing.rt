@@ -35,10 +35,8 @@ impl Derived for Quotient<'_> {
 
     fn step(&self, state: usize, key: usize) -> Step {
         let class = self.tree.at(state).class;
-        let place = self.tree.find(self.classes.behind(class, key));
         Step {
-            // A class that is not found would be numbered behind all others, as `quotient` has it; the search leaves none out.
-            to: place.unwrap_or(self.tree.found.len()),
+            to: self.tree.place(self.classes.behind(class, key)),
             output: self.classes.machine.output(class, key),
         }
     }
