@@ -4,6 +4,7 @@ ghost use Rattle.suite.specs.Answer.{Prepared, TestsAnswered};
 ghost use Rattle.suite.specs.Enumeration.{Fed};
 ghost use Rattle.suite.specs.Specified.{tests_for};
 
+use crate::factors::Fronts;
 use crate::rows::write_suite;
 use crate::sink::Sink;
 use crate::specification::Specification;
@@ -36,8 +37,8 @@ impl Specification<'_> {
         ensures few { length (tests_for self.entry) ≤ 10108800 }
     {
         let cover = Cover::of(self.machine);
-        let fronts = self.fronts(&cover);
-        self.factors(&cover, &fronts).each_test(sink);
+        let mut fronts = Fronts::new();
+        self.factors(&cover, &mut fronts).each_test(sink);
     }
 }
 
@@ -47,6 +48,6 @@ pub fn write_tests(row: &[u64], extra: u64, out: &mut [u64]) -> Result<u64, Refu
 {
     let specification = prepare(row, extra)?;
     let cover = Cover::of(specification.machine);
-    let fronts = specification.fronts(&cover);
-    write_suite(&specification.factors(&cover, &fronts), out)
+    let mut fronts = Fronts::new();
+    write_suite(&specification.factors(&cover, &mut fronts), out)
 }
