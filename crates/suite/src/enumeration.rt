@@ -67,7 +67,7 @@ impl Against<'_> {
     }
 }
 
-impl Factors {
+impl Factors<'_> {
     // Hands on every word of at most `extra` keys behind the word `own`, and every end behind that.
     fn each_behind<S: Sink>(&self, earlier: &[Word], own: &Word, sink: &mut S)
         ensures { Fed S.step (kept_behind self.now.keys self.now.extra (ends_in self.now) (words_of earlier.now) (word_of own.now) (suc self.now.extra)) sink.old sink.new }
@@ -78,7 +78,7 @@ impl Factors {
         for between in 0..=self.extra {
             let against = Against {
                 earlier,
-                ends: self.cover.separating.as_slice(),
+                ends: self.ends,
                 keys: self.keys,
                 own: own.len(),
                 between,
@@ -93,9 +93,8 @@ impl Factors {
     pub(crate) fn each_test<S: Sink>(&self, sink: &mut S)
         ensures { Fed S.step (made_of self.now) sink.old sink.new }
     {
-        let fronts = self.fronts.as_slice();
-        for (i, own) in fronts.iter().enumerate() {
-            self.each_behind(&fronts[..i], own, sink);
+        for (i, own) in self.fronts.iter().enumerate() {
+            self.each_behind(&self.fronts[..i], own, sink);
         }
     }
 }
