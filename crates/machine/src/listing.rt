@@ -18,7 +18,8 @@ impl<T: Copy, const ROOM: usize> FixedList<T, ROOM> {
 
     // The items.
     pub fn as_slice(&self) -> &[T]
-        ensures { result.now ≡ items self.now }
+        ensures value { result.now ≡ items self.now }
+        ensures fits { length result.now ≤ ROOM }
     {
         &self.places[..self.len]
     }

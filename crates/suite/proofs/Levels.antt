@@ -3,7 +3,7 @@ use Rattle.std.proofs.Common.{◌≡◌, ℕ, zero, suc, ◌+◌, ◌-◌, ◌<�
 use lib.ListN.{length-map}
 use Rattle.std.proofs.lemmas.List.FromFn.{map-range_with_len_more}
 use Rattle.std.proofs.lemmas.List.{append-nil, map-id, take_more, take_all, take-map}
-use Rattle.arrayvec.specs.ArrayVec.{ArrayVec}
+use Rattle.machine.specs.declared.fixed_list.FixedList.{FixedList}
 use Rattle.cover.specs.Words.{word_of, words_of}
 use Rattle.machine.specs.Machine.{Word}
 use Rattle.machine.specs.Words.{each_behind, products, single_keys, of_length}
@@ -67,7 +67,7 @@ kept_from_push k e ws earlier (u ∷ vs) v =
     ∙ ap (λ z. kept_behind k e ws earlier u (suc e) ++ z) (kept_from_push k e ws (earlier ++ u ∷ []) vs v)
 
 -- one word in front more
-pub front_more : (k e : ℕ) (ws : List Word) (vs : List (ArrayVec ℕ)) (i : ℕ) (x : ArrayVec ℕ) → i < length vs → x ≡ get_or vs i x →
+pub front_more : (k e : ℕ) (ws : List Word) (vs : List (FixedList ℕ 16)) (i : ℕ) (x : FixedList ℕ 16) → i < length vs → x ≡ get_or vs i x →
     kept k e (take i (words_of vs)) ws ++ kept_behind k e ws (words_of (take i vs)) (word_of x) (suc e) ≡ kept k e (take (i + 1) (words_of vs)) ws
 front_more k e ws vs i x l is =
     ap (λ z. kept k e (take i (words_of vs)) ws ++ kept_behind k e ws z (word_of x) (suc e)) (sym (take-map word_of i vs))
