@@ -41,6 +41,7 @@ impl<'a> Classes<'a> {
     }
 
     // The smallest state in which every key shows the same as in `state` and leads to a state of the same class.
+    #[tactic(auto, using(machine::proofs::Views::few_states))]
     fn smallest(self, state: usize) -> usize
         ensures { result ≡ finer (keys_of self.entry.machine) (model self.entry.machine) self.entry.of state }
     {
@@ -48,8 +49,10 @@ impl<'a> Classes<'a> {
         // Nested loops over states and keys are left by their label.
         'others: for other in 0..state {
             for key in 0..m.keys() {
-                let same_output = m.output(other, key) == m.output(state, key);
-                let same_class = self.behind(other, key) == self.behind(state, key);
+                let there = m.step(other, key);
+                let here = m.step(state, key);
+                let same_output = there.output == here.output;
+                let same_class = self.of[there.to] == self.of[here.to];
                 if !(same_output && same_class) {
                     continue 'others;
                 }
