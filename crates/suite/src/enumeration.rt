@@ -1,6 +1,6 @@
 // Every test once, in order, handed to a sink.
 ghost use Rattle.std.specs.List.{list_any};
-ghost use Rattle.std.specs.Prelude.{◌≡◌, suc, ◌+◌, ◌≤◌, ◌&&◌, ◌||◌};
+ghost use Rattle.std.specs.Prelude.{◌≡◌, suc, ◌+◌, ◌≤◌, ◌&&◌, ◌||◌, ◌++◌, length};
 ghost use Rattle.arrayvec.specs.ArrayVec.{array_vec_len};
 ghost use Rattle.cover.specs.Words.{word_of, words_of};
 ghost use Rattle.machine.specs.Words.{products, of_length};
@@ -13,6 +13,16 @@ use crate::factors::Factors;
 use crate::sink::Sink;
 use crate::values::{Against, Candidate, Known};
 use cover::Word;
+
+// Puts a word behind the keys of a test. Key by key, as in `write_word`.
+fn append(test: &mut Candidate, word: &[u64])
+    requires { array_vec_len test.old + length word.now ≤ 35 }
+    ensures { test.new.items ≡ test.old.items ++ word.now }
+{
+    for key in word {
+        test.push(*key);
+    }
+}
 
 impl Against<'_> {
     // Whether a test has come up before: it ends at a marked place or, if there are longer words in front, can be taken apart with one.
@@ -38,7 +48,7 @@ impl Against<'_> {
             return;
         }
         for end in self.ends {
-            test.try_extend_from_slice(end.as_slice()).unwrap();
+            append(test, end.as_slice());
             if !self.repeated(known, test) {
                 sink.put(test.as_slice());
             }
@@ -74,7 +84,7 @@ impl Factors<'_> {
     {
         let own = own.as_slice();
         let mut test = Candidate::new();
-        test.try_extend_from_slice(own).unwrap();
+        append(&mut test, own);
         for between in 0..=self.extra {
             let against = Against {
                 earlier,

@@ -10,7 +10,7 @@ pub loop-between-init : goal.loop-between-init
 unfolding kept_behind
 loop-between-init g c = record {
   fed = fed_none g.S.Sink.step c.args.sink.now;
-  stays = rw c.unwrap.ensures at c.try_extend_from_slice.ensures.ok ∙ ap (λ z. z ++ c.as_slice-own.result.now) c.new-test.ensures;
+  stays = c.append.ensures ∙ ap (λ z. z ++ c.as_slice-own.result.now) c.new-test.ensures;
 }
 
 pub loop-between-preserved : goal.loop-between-preserved
