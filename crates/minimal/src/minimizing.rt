@@ -23,8 +23,6 @@ impl Derived for Quotient<'_> {
 
     ghost made_keys = { λ q. keys_of q.classes.machine };
 
-    ghost writable = { λ q. q.writable };
-
     fn states(&self) -> usize {
         self.tree.found.len()
     }
