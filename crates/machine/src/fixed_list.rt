@@ -1,5 +1,5 @@
 // A list with room for a fixed number of items, which goes by value.
-ghost use Rattle.std.specs.Prelude.{◌≤◌};
+ghost use Rattle.std.specs.Prelude.{⊤, ◌≡◌, ◌≤◌};
 
 use std::alloc::AllocError;
 
@@ -13,6 +13,10 @@ pub struct FixedList<T, const ROOM: usize> {
 impl<T: Copy, const ROOM: usize> Copy for FixedList<T, ROOM> {}
 
 impl<T: Copy, const ROOM: usize> Clone for FixedList<T, ROOM> {
+    ghost is_clone = { λ list copy. copy ≡ list };
+
+    ghost is_infallible = { λ _. ⊤ };
+
     fn clone(&self) -> Result<Self, AllocError> {
         Ok(*self)
     }
