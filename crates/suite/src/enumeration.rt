@@ -14,7 +14,7 @@ use crate::sink::Sink;
 use crate::values::{Against, Candidate, Known};
 use cover::Word;
 
-// Puts a word behind the keys of a test. Key by key, as in `write_word`.
+// Puts a word behind the keys of a test. Key by key, since `try_extend_from_slice` calls `memmove`, as in `write_word`.
 fn append(test: &mut Candidate, word: &[u64])
     requires { array_vec_len test.old + length word.now ≤ 35 }
     ensures { test.new.items ≡ test.old.items ++ word.now }
@@ -103,8 +103,9 @@ impl Factors<'_> {
     pub(crate) fn each_test<S: Sink>(&self, sink: &mut S)
         ensures { Fed S.step (made_of self.now) sink.old sink.new }
     {
-        for (i, own) in self.fronts.iter().enumerate() {
-            self.each_behind(&self.fronts[..i], own, sink);
+        let fronts = self.fronts;
+        for (i, own) in fronts.iter().enumerate() {
+            self.each_behind(&fronts[..i], own, sink);
         }
     }
 }

@@ -7,7 +7,7 @@ use cover::Word;
 // Up to sixteen words that reach, and each of them with each of up to eight keys behind.
 pub type Fronts = ArrayVec<Word, 144>;
 
-// Words in front, keys, at most `extra` of which come behind a word in front, and words to end with; the words are lent, for they are large.
+// Words in front, keys, at most `extra` of which come behind a word in front, and words to end with. The words are lent: see `Specification::factors`.
 #[derive(Clone, Copy)]
 pub struct Factors<'a> {
     pub fronts: &'a [Word],

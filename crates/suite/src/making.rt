@@ -9,7 +9,7 @@ use crate::specification::Specification;
 use cover::Cover;
 
 impl Specification<'_> {
-    // Made of a cover, and of the words in front, which go into a lent array: the two take 38 KB, so the caller keeps them, and none is moved.
+    // The factors, over a cover and an empty array for the words in front. Both are lent: they take 38 KB, and a result that held them would be copied.
     pub(crate) fn factors<'a>(self, cover: &'a Cover, fronts: &'a mut Fronts) -> Factors<'a>
         requires cover { CoverOf self cover.now }
         requires none { fronts.old.items ≡ [] }

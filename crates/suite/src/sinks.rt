@@ -37,7 +37,7 @@ impl Sink for Tally {
     }
 }
 
-// Writes a word with its length in front. Key by key: the library's copy of a slice needs `memmove`, which not every board has.
+// Writes a word with its length in front. Key by key, since `copy_from_slice` calls `memmove`, and the archive for C needs only `memcpy` and `memset`.
 fn write_word(row: &mut [u64], at: usize, word: &[u64])
     requires { at + suc (length word.now) ≤ length row.old }
     ensures { row.new ≡ take at row.old ++ (word_out word.now ++ drop (at + suc (length word.now)) row.old) }

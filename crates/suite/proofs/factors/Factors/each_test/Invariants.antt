@@ -6,4 +6,4 @@ use Rattle.suite.specs.Kept.{kept}
 use Rattle.suite.proofs.factors.Factors.each_test.Given as goal
 
 abbrev pub invariant-loop-i : goal.invariant-loop-i
-invariant-loop-i g l = Fed g.S.Sink.step (kept l.self.keys l.self.extra (take l.i (words_of l.self.fronts.now)) (ends_in l.self)) l.initial.sink l.sink
+invariant-loop-i g l = Fed g.S.Sink.step (kept l.self.keys l.self.extra (take l.i (words_of l.fronts)) (ends_in l.self)) l.initial.sink l.sink
