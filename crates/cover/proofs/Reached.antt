@@ -2,10 +2,9 @@
 use Rattle.std.proofs.Common.{◌≡◌, ℕ, ◌+◌, ◌<◌, ◌≤◌, List, [], ◌∷◌, ◌++◌, length, get_or, set, sym, ap, ◌∙◌, subst, inl, inr, arith}
 use lib.ListN.{length-map}
 use Rattle.std.proofs.lemmas.List.FromFn.{fill_by_all}
-use Rattle.std.proofs.lemmas.List.{get_or-map, map-set, get_or-set_same, get_or-set_other, length-set}
+use Rattle.std.proofs.lemmas.List.{get_or-map, get_or-set_same, get_or-set_other, length-set}
 use Rattle.std.proofs.lemmas.Bool.{cases_lt}
-use Rattle.arrayvec.specs.ArrayVec.{ArrayVec, with_items}
-use Rattle.arrayvec.proofs.ArrayVecLemmas.{items-with_items}
+use Rattle.machine.specs.declared.fixed_list.FixedList.{FixedList}
 use Rattle.machine.specs.Machine.{Machine, Word, Proper, Minimal, after}
 use Rattle.machine.specs.Words.{FirstWord}
 use Rattle.machine.proofs.Cut.{first_short}
@@ -86,11 +85,6 @@ module _ {k : ℕ} {m : Machine} {tree : Tree} (proper : Proper k m) (search : S
             ∙ sym (access_is k m s (word_at search.0 f.0) first (let b = first_short proper 0 proper.some s (word_at search.0 f.0) first in omega arith))
 
 -- a word that is read out of some words
-pub word_read : (v : ArrayVec (ArrayVec ℕ)) (i : ℕ) {xs : List (ArrayVec ℕ)} {w : ArrayVec ℕ} → xs ≡ v.items → i < length (words_of v.items) → w ≡ get_or xs i w → word_of w ≡ get_or (words_of v.items) i []
-word_read v i {xs} {w} same inside is =
-    ap word_of is ∙ ap (λ ws. word_of (get_or ws i w)) same ∙ sym (get_or-map word_of v.items i w [] (let e = length-map v.items word_of in omega arith))
-
--- a word that is written among some words
-pub word_written : (v : ArrayVec (ArrayVec ℕ)) (i : ℕ) (w : ArrayVec ℕ) {xs : List (ArrayVec ℕ)} → xs ≡ v.items → words_of (with_items v (set xs i w)).items ≡ set (words_of v.items) i (word_of w)
-word_written v i w {xs} same =
-    ap words_of (items-with_items v (set xs i w) (length-set xs i w ∙ ap length same)) ∙ map-set word_of xs i w ∙ ap (λ ws. set (words_of ws) i (word_of w)) same
+pub word_read : (ws : List (FixedList ℕ 16)) (i : ℕ) {xs : List (FixedList ℕ 16)} {w : FixedList ℕ 16} → xs ≡ ws → i < length (words_of ws) → w ≡ get_or xs i w → word_of w ≡ get_or (words_of ws) i []
+word_read ws i {xs} {w} same inside is =
+    ap word_of is ∙ ap (λ ws. word_of (get_or ws i w)) same ∙ sym (get_or-map word_of ws i w [] (let e = length-map ws word_of in omega arith))

@@ -1,5 +1,6 @@
 // The separating words: for every two states the first word that tells them apart, each word once.
 ghost use Rattle.std.specs.Prelude.{◌≡◌, ◌↔◌, IsTrue};
+ghost use Rattle.machine.specs.Items.{items};
 ghost use Rattle.machine.specs.Run.{model, keys_of};
 ghost use Rattle.machine.specs.Words.{In};
 ghost use Rattle.cover.specs.Cover.{separating_words};
@@ -7,7 +8,7 @@ ghost use Rattle.cover.specs.Words.{word_of, words_of};
 
 use crate::levels::Levels;
 use crate::words::Word;
-use arrayvec::ArrayVec;
+use machine::FixedList;
 use minimal::MinimalMachine;
 
 // Whether a word is one of some words.
@@ -18,10 +19,10 @@ fn is_among(word: &Word, words: &[Word]) -> bool
 }
 
 // The words of all pairs of states; of a machine with one state, the empty word.
-pub(crate) fn separating(m: MinimalMachine) -> ArrayVec<Word, 120>
-    ensures { words_of result.items ≡ separating_words (keys_of m.entry.machine) (model m.entry.machine) }
+pub(crate) fn separating(m: MinimalMachine) -> FixedList<Word, 120>
+    ensures { words_of (items result) ≡ separating_words (keys_of m.entry.machine) (model m.entry.machine) }
 {
-    let mut words = ArrayVec::new();
+    let mut words = FixedList::new();
     if m.machine.states() <= 1 {
         words.push(Word::new());
         return words;

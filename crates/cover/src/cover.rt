@@ -1,11 +1,10 @@
-// The words that cover a machine.
-
+// The words that cover a machine, by value.
 use crate::words::Word;
-use arrayvec::ArrayVec;
+use machine::FixedList;
 
 // An access word for each state, by its number, and the separating words.
-#[derive(Drop)]
+#[derive(Clone, Copy)]
 pub struct Cover {
-    pub access: ArrayVec<Word, 16>,
-    pub separating: ArrayVec<Word, 120>,
+    pub access: FixedList<Word, 16>,
+    pub separating: FixedList<Word, 120>,
 }

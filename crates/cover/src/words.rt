@@ -1,17 +1,17 @@
-// Words of a few keys, kept in place.
+// Words of a few keys, which go by value.
 ghost use Rattle.std.specs.Prelude.{◌≡◌, ◌<◌, [], ◌∷◌, ◌++◌, length};
 ghost use Rattle.cover.specs.Words.{word_of};
 
-use arrayvec::ArrayVec;
+use machine::FixedList;
 
 // A word of at most sixteen keys.
-pub type Word = ArrayVec<u64, 16>;
+pub type Word = FixedList<u64, 16>;
 
-// The same word once more: numbers are copied without fail.
+// The same word once more.
 pub fn copied(word: &Word) -> Word
     ensures { word_of result ≡ word_of word.now }
 {
-    word.clone().unwrap()
+    *word
 }
 
 // The word with one key more behind it.

@@ -11,7 +11,7 @@ use Rattle.machine.proofs.First.{first_none, first_some, first_cases}
 use Rattle.machine.proofs.Runs.{length_outputs}
 
 -- where the expected was seen there is no difference
-seen_same : (expected seen : List ℕ) (i : ℕ) → i < length seen → get_or seen i 0 ≡ get_or expected i 0 → differs_at expected seen i ≡ false
+pub seen_same : (expected seen : List ℕ) (i : ℕ) → i < length seen → get_or seen i 0 ≡ get_or expected i 0 → differs_at expected seen i ≡ false
 seen_same expected seen i h e = or_from _ _ (lt-leb _ _ h) (not_from_true _ (eq-eqb _ _ e))
 
 -- what was seen at a place, read by `get`, against what is expected there

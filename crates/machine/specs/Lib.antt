@@ -1,4 +1,5 @@
 pub mod First
+pub mod Items
 pub mod Machine
 pub mod Making
 pub mod Reading

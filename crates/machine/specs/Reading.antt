@@ -17,6 +17,11 @@ abbrev pub ShapeRead : ℕ → ℕ → List ℕ → Result Shape Refusal → Typ
 ShapeRead most_states most_keys row (Ok shape) = (shape_refusal most_states most_keys row ≡ None) × Heads row shape
 ShapeRead most_states most_keys row (Err f) = shape_refusal most_states most_keys row ≡ Some (reason_of f)
 
+-- the row holds a machine, of that shape
+pub record HoldsMachine (row : List ℕ) (shape : Shape) : Type 0 where
+  pub accepted : row_refusal row ≡ None
+  pub head : Heads row shape
+
 -- a row that holds a machine, and a view that shows this machine
 pub record Read (row : List ℕ) (v : View) : Type 0 where
   pub accepted : row_refusal row ≡ None

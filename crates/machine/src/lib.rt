@@ -1,12 +1,15 @@
 // Machines in lent rows of numbers: refusals, reading, running.
 #![tactic(auto)]
 
+mod fixed_list;
+mod listing;
 mod making;
 mod reading;
 mod refusals;
 mod running;
 mod view;
 
+pub use fixed_list::FixedList;
 pub use making::{Derived, write_machine};
 pub use reading::{Shape, read_shape};
 pub use refusals::Refusal;

@@ -28,14 +28,12 @@ pub trait Derived {
         requires key_within { key < made_keys self.now }
         ensures to { result.to ≡ (move (made self.now) state key).to }
         ensures output { result.output ≡ (move (made self.now) state key).output };
-
-    // it can be written
-    ghost writable: { (d : Self) → Writable (made_keys d) (made d) };
 }
 
 // The whole row, over what the lent row held.
 fn write<D: Derived>(machine: &D, out: &mut [u64])
-    requires { room (length (D.made machine.now)) (D.made_keys machine.now) ≤ length out.old }
+    requires writable { Writable (D.made_keys machine.now) (D.made machine.now) }
+    requires fits { room (length (D.made machine.now)) (D.made_keys machine.now) ≤ length out.old }
     ensures { out.new ≡ row_of (D.made_keys machine.now) (D.made machine.now) ++ drop (room (length (D.made machine.now)) (D.made_keys machine.now)) out.old }
 {
     let states = machine.states();
@@ -56,6 +54,7 @@ fn write<D: Derived>(machine: &D, out: &mut [u64])
 
 // Writes a machine into a lent row and answers its number of states, or refuses and writes nothing.
 pub fn write_machine<D: Derived>(machine: &D, out: &mut [u64]) -> Result<u64, Refusal>
+    requires { Writable (D.made_keys machine.now) (D.made machine.now) }
     ensures written { MachineWritten (D.made_keys machine.now) (D.made machine.now) out.old result out.new }
     ensures reads_back { ReadsBack (D.made_keys machine.now) (D.made machine.now) result out.new }
 {

@@ -1,8 +1,10 @@
 // Reading a machine out of a row, or saying why it holds none.
 ghost use Rattle.std.specs.Prelude.{◌≡◌, ◌+◌, ◌*◌, ◌<◌, true, false, length, Some, None};
 ghost use Rattle.machine.specs.First.{first};
-ghost use Rattle.machine.specs.Reading.{Heads, ShapeRead, MachineRead};
+ghost use Rattle.machine.specs.Reading.{Heads, ShapeRead, HoldsMachine, MachineRead};
 ghost use Rattle.machine.specs.Refusals.{outside, shape_refusal, bad_move};
+ghost use Rattle.machine.specs.Row.{machine_in, keys_in};
+ghost use Rattle.machine.specs.Run.{model, keys_of};
 
 use crate::refusals::Refusal;
 use crate::view::Machine;
@@ -71,6 +73,18 @@ fn first_bad_move(row: &[u64], shape: Shape) -> Option<u64>
 }
 
 impl<'a> Machine<'a> {
+    // The machine in a row that was read.
+    pub fn over(row: &'a [u64], shape: Shape) -> Machine<'a>
+        requires { HoldsMachine row.now shape }
+        ensures { (model result ≡ machine_in row.now) × (keys_of result ≡ keys_in row.now) }
+    {
+        Machine {
+            row,
+            states: shape.states,
+            keys: shape.keys,
+        }
+    }
+
     // The machine in a row, or why the row holds none.
     pub fn read(row: &'a [u64]) -> Result<Machine<'a>, Refusal>
         ensures { MachineRead row.now result }
@@ -79,10 +93,6 @@ impl<'a> Machine<'a> {
         if let Some(number) = first_bad_move(row, shape) {
             return Err(Refusal::BadMove(number));
         }
-        Ok(Machine {
-            row,
-            states: shape.states,
-            keys: shape.keys,
-        })
+        Ok(Machine::over(row, shape))
     }
 }

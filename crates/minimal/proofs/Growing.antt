@@ -5,6 +5,7 @@ use Rattle.std.specs.Option.{unwrap_or}
 use Rattle.std.proofs.lemmas.List.{get_or_append_left, get_or_push, length_push}
 use Rattle.std.proofs.lemmas.List.Quantifiers.{position-Some}
 use Rattle.std.proofs.lemmas.Bool.{cases_lt, eqb-true, eqb-false}
+use Rattle.machine.specs.Items.{items}
 use Rattle.machine.specs.Machine.{Machine, Word, Keys, Proper, move}
 use Rattle.machine.proofs.First.{none_first, first_position}
 use Rattle.minimal.specs.Levels.{number_or}
@@ -18,18 +19,18 @@ use Rattle.minimal.proofs.Quotient.{congruent_after, class_key}
 -- where a class stands in a tree
 module _ (tree : Tree) (c : ℕ) where
   -- at a place of the tree, if it is there
-  pub found_some : (j : ℕ) → position (λ found. eqb found.class c) tree.found.items ≡ Some j → (j < found_count tree) × (class_found tree j ≡ c)
-  found_some j e = let p = position-Some (λ found. eqb found.class c) tree.found.items j nothing e in (p.0, eqb-true _ _ p.1)
+  pub found_some : (j : ℕ) → position (λ found. eqb found.class c) (items tree.found) ≡ Some j → (j < found_count tree) × (class_found tree j ≡ c)
+  found_some j e = let p = position-Some (λ found. eqb found.class c) (items tree.found) j nothing e in (p.0, eqb-true _ _ p.1)
 
   -- and at none, if it is not
-  pub found_none : position (λ found. eqb found.class c) tree.found.items ≡ None → (j : ℕ) → j < found_count tree → class_found tree j ≡ c → ⊥
-  found_none e j h = eqb-false _ _ (none_first _ _ (sym (first_position (λ found. eqb found.class c) tree.found.items nothing) ∙ e) j h)
+  pub found_none : position (λ found. eqb found.class c) (items tree.found) ≡ None → (j : ℕ) → j < found_count tree → class_found tree j ≡ c → ⊥
+  found_none e j h = eqb-false _ _ (none_first _ _ (sym (first_position (λ found. eqb found.class c) (items tree.found) nothing) ∙ e) j h)
 
   -- its number, where one that is not there has the number behind the last
-  pub found_place : (o : Option ℕ) (n : ℕ) → o ≡ position (λ found. eqb found.class c) tree.found.items → n ≡ found_count tree → unwrap_or o n ≡ place (class_found tree) (found_count tree) c
+  pub found_place : (o : Option ℕ) (n : ℕ) → o ≡ position (λ found. eqb found.class c) (items tree.found) → n ≡ found_count tree → unwrap_or o n ≡ place (class_found tree) (found_count tree) c
   unfolding place
   found_place o n is_o is_n =
-      rw is_n (number_is o ∙ ap (number_or (found_count tree)) (is_o ∙ first_position (λ found. eqb found.class c) tree.found.items nothing))
+      rw is_n (number_is o ∙ ap (number_or (found_count tree)) (is_o ∙ first_position (λ found. eqb found.class c) (items tree.found) nothing))
     where
       number_is : (o : Option ℕ) → unwrap_or o (found_count tree) ≡ number_or (found_count tree) o
       number_is None = refl
@@ -43,7 +44,7 @@ pub record Growing (k : ℕ) (f : Word → ℕ) (i x : ℕ) (tree : Tree) : Type
 
 module _ {k : ℕ} {f : Word → ℕ} where
   -- the tree with the empty word alone, at the beginning
-  pub grows_root : (tree : Tree) (c : ℕ) → tree.found.items ≡ record { class = c; parent = 0; key = 0 } ∷ [] → c ≡ f [] → Growing k f 0 0 tree
+  pub grows_root : (tree : Tree) (c : ℕ) → (items tree.found) ≡ record { class = c; parent = 0; key = 0 } ∷ [] → c ≡ f [] → Growing k f 0 0 tree
   grows_root tree c one e =
       let many = ap length one in
       record {
@@ -51,7 +52,7 @@ module _ {k : ℕ} {f : Word → ℕ} where
         searching = search_begins k f;
         kept = record {
           many = sym many;
-          values = λ j h. let z : j ≡ 0 = omega arith in rw (z, one) e;
+          values = λ j h. let z : j ≡ 0 = omega arith in rw z (ap (λ ds. (get_or ds 0 nothing).class) one ∙ e);
           parents = λ j a b. absurd (omega arith);
           keys = λ j a b. absurd (omega arith);
           steps = λ j a b. absurd (omega arith);
@@ -93,7 +94,7 @@ module _ {k : ℕ} {f : Word → ℕ} where
     -- the class behind the key is new
     pub grows_new :
         ((l : ℕ) → l < found_count tree → class_found tree l ≡ f next → ⊥) → (more : Tree) →
-        more.found.items ≡ tree.found.items ++ record { class = f next; parent = i; key = x } ∷ [] → Growing k f i (x + 1) more
+        (items more.found) ≡ (items tree.found) ++ record { class = f next; parent = i; key = x } ∷ [] → Growing k f i (x + 1) more
     grows_new fresh more pushed = record {
       words = ws ++ next ∷ [];
       searching = key_new k f ws i x g.searching inside hx (fresh_words fresh);
@@ -123,7 +124,7 @@ module _ {k : ℕ} {f : Word → ℕ} where
         ws = g.words
 
         many : found_count more ≡ found_count tree + 1
-        many = ap length pushed ∙ length_push tree.found.items (record { class = f next; parent = i; key = x })
+        many = ap length pushed ∙ length_push (items tree.found) (record { class = f next; parent = i; key = x })
 
         old : (j : ℕ) → j < found_count tree → word_at (ws ++ next ∷ []) j ≡ word_at ws j
         old j l = get_or_append_left ws (next ∷ []) [] j (let a = g.kept.many in omega arith)
@@ -132,10 +133,10 @@ module _ {k : ℕ} {f : Word → ℕ} where
         new = get_or_push ws next [] (found_count tree) g.kept.many
 
         kept_at : (j : ℕ) → j < found_count tree → found_at more j ≡ found_at tree j
-        kept_at j l = ap (λ ds. get_or ds j nothing) pushed ∙ get_or_append_left tree.found.items (record { class = f next; parent = i; key = x } ∷ []) nothing j l
+        kept_at j l = ap (λ ds. get_or ds j nothing) pushed ∙ get_or_append_left (items tree.found) (record { class = f next; parent = i; key = x } ∷ []) nothing j l
 
         new_at : found_at more (found_count tree) ≡ record { class = f next; parent = i; key = x }
-        new_at = ap (λ ds. get_or ds (found_count tree) nothing) pushed ∙ get_or_push tree.found.items (record { class = f next; parent = i; key = x }) nothing (found_count tree) refl
+        new_at = ap (λ ds. get_or ds (found_count tree) nothing) pushed ∙ get_or_push (items tree.found) (record { class = f next; parent = i; key = x }) nothing (found_count tree) refl
 
 -- the search has come to its end
 pub grows_ends : {k : ℕ} {m : Machine} {class : ℕ → ℕ} → Proper k m → Congruence k m class → (i : ℕ) (tree : Tree) → Growing k (class_after class m) i 0 tree → found_count tree ≤ i → SearchTree k (class_after class m) tree

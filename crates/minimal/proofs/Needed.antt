@@ -3,6 +3,7 @@ use Rattle.std.proofs.Common.{◌≡◌, ℕ, ◌<◌, ◌≤◌, eqb, [], ◌�
 use Rattle.std.specs.List.{position}
 use mathlib.Core.Path.{fun_ext}
 use Rattle.std.proofs.lemmas.Bool.{cases_order, eqb-true, eqb-false}
+use Rattle.machine.specs.Items.{items}
 use Rattle.machine.specs.Machine.{Machine, Word, Keys, Proper, Minimal, EquivalentStates, after, move}
 use Rattle.machine.proofs.First.{first_cases}
 use Rattle.machine.proofs.Runs.{after_append, after_below}
@@ -74,7 +75,7 @@ module _ {k : ℕ} {m : Machine} where
 
   module _ (class : ℕ → ℕ) (of : Equivalence k m class) (tree : Tree) (found : SearchTree k (after m 0) tree) (s : ℕ) (h : s < length m) where
     -- found by the search, and the smallest of its class
-    pub needed_state : s ≤ class s → (j : ℕ) → position (λ found. eqb found.class s) tree.found.items ≡ Some j → Needed k m s
+    pub needed_state : s ≤ class s → (j : ℕ) → position (λ found. eqb found.class s) (items tree.found) ≡ Some j → Needed k m s
     needed_state own j e =
         let at = found_some tree s j e in
         let kept = found.2 in
@@ -89,7 +90,7 @@ module _ {k : ℕ} {m : Machine} where
     redundant_class l = inr (class s, l, of.equivalent s h)
 
     -- a state that the search did not find is redundant
-    pub redundant_place : position (λ found. eqb found.class s) tree.found.items ≡ None → Redundant k m s
+    pub redundant_place : position (λ found. eqb found.class s) (items tree.found) ≡ None → Redundant k m s
     redundant_place out = inl (λ w ok e.
         let c = found.1.complete w ok in
         let kept = found.2 in

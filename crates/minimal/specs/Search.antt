@@ -1,5 +1,6 @@
 -- What a breadth first search by words finds: of all words of keys, each value of f with the first word in order that has it. Assumes nothing: these are definitions.
 use Rattle.std.specs.Prelude.{◌≡◌, ℕ, ◌<◌, List, [], ◌∷◌, ◌++◌, length, ◌≢◌, slice_index_or}
+use Rattle.machine.specs.Items.{items}
 use Rattle.machine.specs.Machine.{Word, Keys}
 use Rattle.machine.specs.Words.{Before, FirstWord}
 use Rattle.minimal.specs.declared.tree.Found.{Found}
@@ -24,7 +25,7 @@ pub record Searched (k : ℕ) (f : Word → ℕ) (ws : List Word) : Type 0 where
 
 -- how many classes a tree holds
 abbrev pub found_count : Tree → ℕ
-found_count tree = length tree.found.items
+found_count tree = length (items tree.found)
 
 -- what stands at a place that there is not
 abbrev pub nothing : Found
@@ -32,7 +33,7 @@ nothing = record { class = 0; parent = 0; key = 0 }
 
 -- what was found at place j
 abbrev pub found_at : Tree → ℕ → Found
-found_at tree j = slice_index_or tree.found.items j nothing
+found_at tree j = slice_index_or (items tree.found) j nothing
 
 -- the class at place j
 abbrev pub class_found : Tree → ℕ → ℕ

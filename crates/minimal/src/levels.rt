@@ -41,6 +41,7 @@ impl<'a> Classes<'a> {
     }
 
     // The smallest state in which every key shows the same as in `state` and leads to a state of the same class.
+    #[tactic(auto, using(machine::proofs::Views::few_states))]
     fn smallest(self, state: usize) -> usize
         ensures { result ≡ finer (keys_of self.entry.machine) (model self.entry.machine) self.entry.of state }
     {
@@ -48,8 +49,10 @@ impl<'a> Classes<'a> {
         // Nested loops over states and keys are left by their label.
         'others: for other in 0..state {
             for key in 0..m.keys() {
-                let same_output = m.output(other, key) == m.output(state, key);
-                let same_class = self.behind(other, key) == self.behind(state, key);
+                let there = m.step(other, key);
+                let here = m.step(state, key);
+                let same_output = there.output == here.output;
+                let same_class = self.of[there.to] == self.of[here.to];
                 if !(same_output && same_class) {
                     continue 'others;
                 }
@@ -65,9 +68,21 @@ impl<'a> Classes<'a> {
         ensures finer { (s : ℕ) → s < length (model self.entry.machine) → class_in result.of s ≡ finer (keys_of self.entry.machine) (model self.entry.machine) self.entry.of s }
         ensures level { (j : ℕ) → AtLevel (keys_of self.entry.machine) (model self.entry.machine) j self.entry.of → AtLevel (keys_of self.entry.machine) (model self.entry.machine) (j + 1) result.of }
     {
+        let states = self.machine.states();
         Classes {
             machine: self.machine,
-            of: array::from_fn(|state| self.smallest(state)),
+            // Only for the machine's states: to look behind them takes up to four times as long.
+            of: array::from_fn(
+                |state| -> usize
+                    ensures { state < states → result ≡ finer (keys_of self.entry.machine) (model self.entry.machine) self.entry.of state }
+                {
+                    if state < states {
+                        self.smallest(state)
+                    } else {
+                        0
+                    }
+                },
+            ),
         }
     }
 

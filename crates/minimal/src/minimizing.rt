@@ -23,8 +23,6 @@ impl Derived for Quotient<'_> {
 
     ghost made_keys = { λ q. keys_of q.classes.machine };
 
-    ghost writable = { λ q. q.writable };
-
     fn states(&self) -> usize {
         self.tree.found.len()
     }
@@ -35,10 +33,8 @@ impl Derived for Quotient<'_> {
 
     fn step(&self, state: usize, key: usize) -> Step {
         let class = self.tree.at(state).class;
-        let place = self.tree.find(self.classes.behind(class, key));
         Step {
-            // A class that is not found would be numbered behind all others, as `quotient` has it; the search leaves none out.
-            to: place.unwrap_or(self.tree.found.len()),
+            to: self.tree.place(self.classes.behind(class, key)),
             output: self.classes.machine.output(class, key),
         }
     }

@@ -1,22 +1,22 @@
 // Breadth first search over classes of states, keys in order: each class is found by the first word in order that reaches it.
 ghost use Rattle.std.specs.Prelude.{◌≡◌, ◌<◌, ◌≤◌, [], ◌∷◌, position, ◌==◌};
+ghost use Rattle.machine.specs.Items.{items};
 ghost use Rattle.machine.specs.Machine.{after};
 ghost use Rattle.machine.specs.Run.{model, keys_of};
 ghost use Rattle.minimal.specs.Levels.{class_in};
-ghost use Rattle.minimal.specs.Quotient.{Congruence, class_after};
-ghost use Rattle.minimal.specs.Search.{found_at, found_count, SearchTree};
+ghost use Rattle.minimal.specs.Quotient.{Congruence, class_after, place};
+ghost use Rattle.minimal.specs.Search.{found_at, found_count, class_found, SearchTree};
 
 use crate::classes::Classes;
 use crate::tree::{Found, Tree};
-use arrayvec::ArrayVec;
-use machine::Machine;
+use machine::{FixedList, Machine};
 
 impl Tree {
     // The class from which the search begins.
     fn root(class: usize) -> Tree
-        ensures { result.found.items ≡ record { class = class; parent = 0; key = 0 } ∷ [] }
+        ensures { items result.found ≡ record { class = class; parent = 0; key = 0 } ∷ [] }
     {
-        let mut found = ArrayVec::new();
+        let mut found = FixedList::new();
         found.push(Found {
             class,
             parent: 0,
@@ -35,9 +35,16 @@ impl Tree {
 
     // Where a class stands among those found.
     pub fn find(&self, class: usize) -> Option<usize>
-        ensures { result ≡ position (λ found. found.class == class) self.now.found.items }
+        ensures { result ≡ position (λ found. found.class == class) (items self.now.found) }
     {
         self.found.iter().position(|found| found.class == class)
+    }
+
+    // Its number: that behind the last, where the class is not among those found.
+    pub fn place(&self, class: usize) -> usize
+        ensures { result ≡ place (class_found self.now) (found_count self.now) class }
+    {
+        self.find(class).unwrap_or(self.found.len())
     }
 }
 

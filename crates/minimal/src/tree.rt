@@ -1,5 +1,5 @@
 // The classes that a breadth first search found.
-use arrayvec::ArrayVec;
+use machine::FixedList;
 
 // A class, and where it is not the first the place of the class that it was found from, its parent, and the key that led there: no walk towards
 // the first reads these two of it. A place and no Box, for the libraries take no heap.
@@ -11,7 +11,7 @@ pub struct Found {
 }
 
 // At most sixteen classes, in the order in which they were found.
-#[derive(Drop)]
+#[derive(Clone, Copy)]
 pub struct Tree {
-    pub found: ArrayVec<Found, 16>,
+    pub found: FixedList<Found, 16>,
 }

@@ -5,7 +5,7 @@ use mathlib.Core.List.Memᴰ
 use Rattle.std.proofs.Math.Bool.{or-false}
 use Rattle.std.proofs.lemmas.List.Folds.{list_any-append}
 use Rattle.std.proofs.lemmas.Bool.{or_cases, or_left, or_right, false≢true}
-use Rattle.arrayvec.specs.ArrayVec.{ArrayVec}
+use Rattle.machine.specs.declared.fixed_list.FixedList.{FixedList}
 use Rattle.cover.specs.Words.{word_of, words_of}
 use Rattle.machine.specs.Machine.{Word}
 use Rattle.suite.proofs.Members.{In}
@@ -32,6 +32,6 @@ module _ (f : Word → Bool) where
   any_push ws w = list_any-append f ws (w ∷ []) ∙ ap (λ b. list_any f ws || b) (or-false (f w))
 
 -- a test of what some words by value stand for is a test of the words
-pub any_words : (f : Word → Bool) (ws : List (ArrayVec ℕ)) → list_any f (words_of ws) ≡ list_any (λ w. f (word_of w)) ws
+pub any_words : (f : Word → Bool) (ws : List (FixedList ℕ 16)) → list_any f (words_of ws) ≡ list_any (λ w. f (word_of w)) ws
 any_words f [] = refl
 any_words f (w ∷ ws) = ap (λ b. f (word_of w) || b) (any_words f ws)

@@ -1,7 +1,7 @@
 -- One end more behind a beginning: handed on, or left out since it has come up before. Assumes nothing.
 use Rattle.std.specs.List.{list_any}
 use Rattle.std.proofs.Common.{◌≡◌, ℕ, suc, ◌+◌, ◌<◌, ◌≤◌, Bool, true, false, ◌&&◌, ◌||◌, List, [], ◌∷◌, ◌++◌, length, get_or, take, sym, ap, ◌∙◌, subst, arith, length-append}
-use Rattle.arrayvec.specs.ArrayVec.{ArrayVec}
+use Rattle.machine.specs.declared.fixed_list.FixedList.{FixedList}
 use Rattle.cover.specs.Words.{word_of, words_of}
 use Rattle.machine.specs.Machine.{Word}
 use Rattle.suite.specs.declared.values.Against.{Against}
@@ -19,7 +19,7 @@ none_new a known f full knows mark =
     (λ w inside. begun_repeats a.extra a.between a.own (words_of a.ends.now) (words_of a.earlier.now) f w full (sym (knows.places (length f) (omega arith)) ∙ mark) inside)
 
 -- a beginning f, and behind it the end x
-module _ (a : Against) (f : Word) (x : ArrayVec ℕ) (full : length f ≡ a.own + a.between) (short : length (word_of x) ≤ 16) where
+module _ (a : Against) (f : Word) (x : FixedList ℕ 16) (full : length f ≡ a.own + a.between) (short : length (word_of x) ≤ 16) where
   -- the words that a test may end with
   abbrev ends : List Word
   ends = words_of a.ends.now

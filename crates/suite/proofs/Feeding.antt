@@ -4,7 +4,7 @@ use lib.ListN.{length-map}
 use mathlib.Core.List.Memᴰ
 use Rattle.std.proofs.lemmas.List.Elements.{filter-append}
 use Rattle.std.proofs.lemmas.List.{append-nil, map-append, take_more, take-append-le}
-use Rattle.arrayvec.specs.ArrayVec.{ArrayVec}
+use Rattle.machine.specs.declared.fixed_list.FixedList.{FixedList}
 use Rattle.cover.specs.Words.{word_of, words_of}
 use Rattle.machine.specs.Machine.{Word}
 use Rattle.machine.specs.Words.{each_behind}
@@ -63,7 +63,7 @@ module _ (e : ℕ) (ends earlier : List Word) (own j : ℕ) (f : Word) where
       ap (λ b. cond (not b) ((f ++ w) ∷ rest) rest) (h w (Memᴰ.head refl)) ∙ fresh_none ws (λ v m. h v (Memᴰ.tail m))
 
   -- one end more
-  module _ (ws : List (ArrayVec ℕ)) (i : ℕ) (x : ArrayVec ℕ) (inside : i < length ws) (is : x ≡ get_or ws i x) where
+  module _ (ws : List (FixedList ℕ 16)) (i : ℕ) (x : FixedList ℕ 16) (inside : i < length ws) (is : x ≡ get_or ws i x) where
     -- what is new with the first i + 1 ends is what is new with the first i, and with the next
     fresh_more : fresh_behind e ends earlier own j f (take (i + 1) (words_of ws)) ≡ fresh_behind e ends earlier own j f (take i (words_of ws)) ++ fresh_behind e ends earlier own j f (word_of x ∷ [])
     fresh_more =

@@ -3,13 +3,13 @@ use Rattle.std.proofs.Common.{◌≡◌, ℕ, zero, suc, ◌+◌, ◌-◌, ◌<�
 use lib.ListN.{length-map}
 use Rattle.std.proofs.lemmas.List.FromFn.{map-range_with_len_more}
 use Rattle.std.proofs.lemmas.List.{append-nil, map-id, take_more, take_all, take-map}
-use Rattle.arrayvec.specs.ArrayVec.{ArrayVec}
+use Rattle.machine.specs.declared.fixed_list.FixedList.{FixedList}
 use Rattle.cover.specs.Words.{word_of, words_of}
 use Rattle.machine.specs.Machine.{Word}
 use Rattle.machine.specs.Words.{each_behind, products, single_keys, of_length}
 use Rattle.suite.specs.Enumeration.{Fed, fresh_behind}
 use Rattle.suite.specs.Kept.{kept_behind, kept_from, kept}
-use Rattle.suite.proofs.Feeding.{fed_same, fed_then, fresh_append, fresh_front}
+use Rattle.suite.proofs.Feeding.{fed_then, fresh_append, fresh_front}
 use Rattle.suite.proofs.Places.{word_at}
 use Rattle.suite.proofs.TakenApart.{products_append, products_behind}
 
@@ -51,13 +51,11 @@ between_more k e ws earlier v f own j same long =
     rw (one, whole, same)
 
 -- handing on the tests with fewer than j keys between, and then those with j
-pub length_more : {S : Type 0} (step : S → Word → S → Type 0) (k e : ℕ) (ws found earlier : List Word) (v f : Word) (j : ℕ) (s m t : S) → f ≡ v → found ≡ ws → Fed step (kept_behind k e ws earlier v j) s m →
-    Fed step (fresh_behind e found earlier (length v) j f (products (of_length k j) found)) m t → Fed step (kept_behind k e ws earlier v (j + 1)) s t
-length_more step k e ws found earlier v f j s m t same ends before these =
+pub length_more : {S : Type 0} (step : S → Word → S → Type 0) (k e : ℕ) (ws earlier : List Word) (v f : Word) (j : ℕ) (s m t : S) → f ≡ v → Fed step (kept_behind k e ws earlier v j) s m →
+    Fed step (fresh_behind e ws earlier (length v) j f (products (of_length k j) ws)) m t → Fed step (kept_behind k e ws earlier v (j + 1)) s t
+length_more step k e ws earlier v f j s m t same before these =
     fed_then step (kept_behind k e ws earlier v j) (fresh_behind e ws earlier (length v) j f (products (of_length k j) ws)) (kept_behind k e ws earlier v (j + 1)) s m t
-    (between_more k e ws earlier v f (length v) j same refl) before
-    (fed_same step (fresh_behind e found earlier (length v) j f (products (of_length k j) found)) (fresh_behind e ws earlier (length v) j f (products (of_length k j) ws)) m t
-    (ap (λ (z : List Word). fresh_behind e z earlier (length v) j f (products (of_length k j) z)) ends) these)
+    (between_more k e ws earlier v f (length v) j same refl) before these
 
 -- one word in front more, at the end of a list: its tests come behind those of the others
 kept_from_push : (k e : ℕ) (ws earlier vs : List Word) (v : Word) → kept_from k e ws earlier vs ++ kept_behind k e ws (earlier ++ vs) v (suc e) ≡ kept_from k e ws earlier (vs ++ v ∷ [])
@@ -69,7 +67,7 @@ kept_from_push k e ws earlier (u ∷ vs) v =
     ∙ ap (λ z. kept_behind k e ws earlier u (suc e) ++ z) (kept_from_push k e ws (earlier ++ u ∷ []) vs v)
 
 -- one word in front more
-pub front_more : (k e : ℕ) (ws : List Word) (vs : List (ArrayVec ℕ)) (i : ℕ) (x : ArrayVec ℕ) → i < length vs → x ≡ get_or vs i x →
+pub front_more : (k e : ℕ) (ws : List Word) (vs : List (FixedList ℕ 16)) (i : ℕ) (x : FixedList ℕ 16) → i < length vs → x ≡ get_or vs i x →
     kept k e (take i (words_of vs)) ws ++ kept_behind k e ws (words_of (take i vs)) (word_of x) (suc e) ≡ kept k e (take (i + 1) (words_of vs)) ws
 front_more k e ws vs i x l is =
     ap (λ z. kept k e (take i (words_of vs)) ws ++ kept_behind k e ws z (word_of x) (suc e)) (sym (take-map word_of i vs))

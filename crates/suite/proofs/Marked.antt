@@ -5,7 +5,7 @@ use Rattle.std.proofs.Math.Bool.{or-false, or_assoc}
 use Rattle.std.proofs.lemmas.List.Folds.{list_any_more}
 use Rattle.std.proofs.lemmas.List.{take_all, get_or-replicate}
 use lib.ListN.{length-map}
-use Rattle.arrayvec.specs.ArrayVec.{ArrayVec}
+use Rattle.machine.specs.declared.fixed_list.FixedList.{FixedList}
 use Rattle.cover.specs.Words.{word_of, words_of}
 use Rattle.suite.specs.Enumeration.{within, marks, marked}
 use Rattle.suite.specs.Kept.{begins}
@@ -15,7 +15,7 @@ use Rattle.suite.proofs.Places.{word_at}
 pub marks_none : (own j m : ℕ) (b : Bool) → m < 36 → b ≡ (get_or (replicate 36 false) m false || within own j m) → b ≡ (within own j m || false)
 marks_none own j m b l e = e ∙ ap (λ z. z || within own j m) (get_or-replicate 36 m false false l) ∙ sym (or-false (within own j m))
 
-module _ (e : ℕ) (f : List ℕ) (ws : List (ArrayVec ℕ)) (i own j : ℕ) (x : ArrayVec ℕ) (inside : i < length ws) (is : x ≡ get_or ws i x) (m : ℕ) (b r : Bool)
+module _ (e : ℕ) (f : List ℕ) (ws : List (FixedList ℕ 16)) (i own j : ℕ) (x : FixedList ℕ 16) (inside : i < length ws) (is : x ≡ get_or ws i x) (m : ℕ) (b r : Bool)
     (so_far : b ≡ (within own j m || list_any (marks (suc e) f m) (take i (words_of ws)))) where
   -- with x too, the place has a mark if it had one before or x marks it
   one_more : (within own j m || list_any (marks (suc e) f m) (take (i + 1) (words_of ws))) ≡ (b || marks (suc e) f m (word_of x))

@@ -4,7 +4,7 @@ use Rattle.std.proofs.Common.{take, ◌≡◌, ℕ, nat_eq, ◌&&◌, ◌∷◌,
 use Rattle.std.proofs.lemmas.Bool.{false_from_ne_true}
 use Rattle.std.proofs.lemmas.List.{get_or-map, take_all}
 use Rattle.machine.specs.Words.{same}
-use Rattle.arrayvec.specs.ArrayVec.{ArrayVec}
+use Rattle.machine.specs.declared.fixed_list.FixedList.{FixedList}
 use Rattle.cover.specs.Words.{word_of, words_of}
 use Rattle.suite.specs.Kept.{begins}
 use Rattle.suite.proofs.Members.{same_true}
@@ -27,5 +27,5 @@ pub end_from : (c : List ℕ) (n : ℕ) → take (length c - n) (drop n c) ≡ d
 end_from c n = take_all (length c - n) (drop n c) (omega (arith, length-drop n c))
 
 -- the word that stands at a place of a slice
-pub word_at : (ws : List (ArrayVec ℕ)) (i : ℕ) (x : ArrayVec ℕ) → i < length ws → x ≡ get_or ws i x → get_or (words_of ws) i [] ≡ word_of x
+pub word_at : (ws : List (FixedList ℕ 16)) (i : ℕ) (x : FixedList ℕ 16) → i < length ws → x ≡ get_or ws i x → get_or (words_of ws) i [] ≡ word_of x
 word_at ws i x l e = get_or-map word_of ws i x [] l ∙ ap word_of (sym e)

@@ -11,6 +11,7 @@ use Rattle.machine.specs.Run.{model, keys_of}
 use Rattle.machine.specs.Words.{once, listed}
 use Rattle.machine.proofs.Rows.{proper_in}
 use Rattle.machine.proofs.Views.{view_accepted, view_proper, view_states, few_states}
+use Rattle.minimal.proofs.Known.{known_minimal}
 use Rattle.minimal.proofs.Moore.{short_separation}
 use Rattle.cover.specs.Cover.{access_words, separating_words, telling_words}
 use Rattle.cover.specs.Covered.{access_of, separating_of}
@@ -19,7 +20,9 @@ use Rattle.cover.proofs.Collected.{few_separating}
 use Rattle.cover.proofs.Access.{length_access, access_words_fewer, access_words_reach}
 use Rattle.cover.proofs.Separating.{separating_separates}
 use Rattle.suite.specs.Answer.{Testable, Follows, TestsAnswered, made}
+use Rattle.suite.specs.declared.specification.Specification.{Specification}
 use Rattle.suite.specs.Kept.{Different, kept}
+use Rattle.suite.specs.Specified.{CoverOf, tests_for}
 use Rattle.suite.specs.Suite.{with_key, suite, tests}
 use Rattle.suite.specs.Written.{MakesTests, TestsWritten, words_in, room_for}
 use Rattle.suite.proofs.Counts.{tests_low}
@@ -50,27 +53,31 @@ view_makes v e minimal few_extra =
       different = different_separating k m;
     }
 
--- the cover of a minimal machine, with its number of keys and at most three extra states
-module _ (v : View) (e keys : ℕ) (c : Cover) (same : keys ≡ keys_of v) (access : access_of c ≡ access_words (keys_of v) (model v))
-    (separating : separating_of c ≡ separating_words (keys_of v) (model v)) (minimal : Minimal (keys_of v) (model v)) (few_extra : e ≤ 3) where
+-- the cover of a minimal machine, with at most three extra states
+module _ (s : Specification) (c : Cover) (covers : CoverOf s c) where
+  -- its keys
+  abbrev keys : ℕ
+  keys = keys_of s.machine.machine
+
   -- its words make tests
-  pub cover_makes : MakesTests keys e (access_of c) (separating_of c)
-  cover_makes = rw (same, access, separating) (view_makes v e minimal few_extra)
+  pub cover_makes : MakesTests keys s.extra (access_of c) (separating_of c)
+  cover_makes = rw (covers.access, covers.separating) (view_makes s.machine.machine s.extra (known_minimal s.machine) s.few_extra)
+
+  -- each test that they make, once
+  once_kept : suite keys s.extra (access_of c) (separating_of c) ≡ kept keys s.extra (with_key keys (access_of c)) (separating_of c)
+  once_kept = let makes = cover_makes in suite_kept keys s.extra (access_of c) (separating_of c) makes.reach_keys makes.end_keys makes.different
 
   -- the tests that they make are the tests of the machine, and with its access words and these, each followed by each key, in front each is kept once
-  pub cover_made : kept keys e (with_key keys (access_of c)) (separating_of c) ≡ tests (keys_of v) e (model v)
+  pub cover_made : kept keys s.extra (with_key keys (access_of c)) (separating_of c) ≡ tests_for s
   unfolding tests
-  cover_made =
-      let makes = cover_makes in
-      sym (suite_kept keys e (access_of c) (separating_of c) makes.reach_keys makes.end_keys makes.different)
-      ∙ ap (λ k. suite k e (access_of c) (separating_of c)) same ∙ ap (λ qs. suite (keys_of v) e qs (separating_of c)) access ∙ ap (suite (keys_of v) e (access_words (keys_of v) (model v))) separating
+  cover_made = sym once_kept ∙ ap (λ qs. suite keys s.extra qs (separating_of c)) covers.access ∙ ap (suite keys s.extra (access_words keys (model s.machine.machine))) covers.separating
 
   -- and there are not too many of them to count
-  pub cover_low : length (tests (keys_of v) e (model v)) ≤ 10108800
+  pub cover_low : length (tests_for s) ≤ 10108800
   cover_low =
       let makes = cover_makes in
-      rw (← cover_made, ← suite_kept keys e (access_of c) (separating_of c) makes.reach_keys makes.end_keys makes.different)
-      (tests_low keys e (access_of c) (separating_of c) makes.few_keys makes.few_extra makes.few (rw separating (few_separating (keys_of v) (model v) (few_states v))))
+      rw (← cover_made, ← once_kept)
+      (tests_low keys s.extra (access_of c) (separating_of c) makes.few_keys makes.few_extra makes.few (rw covers.separating (few_separating keys (model s.machine.machine) (few_states s.machine.machine))))
 
 -- what follows from passing the tests
 pub tests_follow : (k e : ℕ) (m : Machine) → Proper k m → Minimal k m → Follows k e m (tests k e m)

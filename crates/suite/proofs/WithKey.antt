@@ -3,13 +3,13 @@ use Rattle.std.proofs.Common.{◌≡◌, ℕ, ◌+◌, ◌<◌, List, [], ◌∷
 use lib.ListN.{length-map}
 use Rattle.std.proofs.lemmas.List.FromFn.{map-range_with_len_more}
 use Rattle.std.proofs.lemmas.List.{map-append, take_more}
-use Rattle.arrayvec.specs.ArrayVec.{ArrayVec}
+use Rattle.machine.specs.declared.fixed_list.FixedList.{FixedList}
 use Rattle.cover.specs.Words.{word_of, words_of}
 use Rattle.machine.specs.Machine.{Word}
 use Rattle.machine.specs.Words.{each_behind, single_keys}
 use Rattle.suite.proofs.Places.{word_at}
 
-module _ (ws : List (ArrayVec ℕ)) (i : ℕ) (x : ArrayVec ℕ) (inside : i < length ws) (is : x ≡ get_or ws i x) where
+module _ (ws : List (FixedList ℕ 16)) (i : ℕ) (x : FixedList ℕ 16) (inside : i < length ws) (is : x ≡ get_or ws i x) where
   -- these words, each as its keys
   abbrev W : List Word
   W = words_of ws

@@ -1,6 +1,6 @@
 // Every test once, in order, handed to a sink.
 ghost use Rattle.std.specs.List.{list_any};
-ghost use Rattle.std.specs.Prelude.{◌≡◌, suc, ◌+◌, ◌≤◌, ◌&&◌, ◌||◌};
+ghost use Rattle.std.specs.Prelude.{◌≡◌, suc, ◌+◌, ◌≤◌, ◌&&◌, ◌||◌, ◌++◌, length};
 ghost use Rattle.arrayvec.specs.ArrayVec.{array_vec_len};
 ghost use Rattle.cover.specs.Words.{word_of, words_of};
 ghost use Rattle.machine.specs.Words.{products, of_length};
@@ -13,6 +13,16 @@ use crate::factors::Factors;
 use crate::sink::Sink;
 use crate::values::{Against, Candidate, Known};
 use cover::Word;
+
+// Puts a word behind the keys of a test. Key by key, since `try_extend_from_slice` calls `memmove`, as in `write_word`.
+fn append(test: &mut Candidate, word: &[u64])
+    requires { array_vec_len test.old + length word.now ≤ 35 }
+    ensures { test.new.items ≡ test.old.items ++ word.now }
+{
+    for key in word {
+        test.push(*key);
+    }
+}
 
 impl Against<'_> {
     // Whether a test has come up before: it ends at a marked place or, if there are longer words in front, can be taken apart with one.
@@ -38,7 +48,7 @@ impl Against<'_> {
             return;
         }
         for end in self.ends {
-            test.try_extend_from_slice(end.as_slice()).unwrap();
+            append(test, end.as_slice());
             if !self.repeated(known, test) {
                 sink.put(test.as_slice());
             }
@@ -67,18 +77,18 @@ impl Against<'_> {
     }
 }
 
-impl Factors {
+impl Factors<'_> {
     // Hands on every word of at most `extra` keys behind the word `own`, and every end behind that.
     fn each_behind<S: Sink>(&self, earlier: &[Word], own: &Word, sink: &mut S)
         ensures { Fed S.step (kept_behind self.now.keys self.now.extra (ends_in self.now) (words_of earlier.now) (word_of own.now) (suc self.now.extra)) sink.old sink.new }
     {
         let own = own.as_slice();
         let mut test = Candidate::new();
-        test.try_extend_from_slice(own).unwrap();
+        append(&mut test, own);
         for between in 0..=self.extra {
             let against = Against {
                 earlier,
-                ends: self.cover.separating.as_slice(),
+                ends: self.ends,
                 keys: self.keys,
                 own: own.len(),
                 between,
@@ -93,7 +103,7 @@ impl Factors {
     pub(crate) fn each_test<S: Sink>(&self, sink: &mut S)
         ensures { Fed S.step (made_of self.now) sink.old sink.new }
     {
-        let fronts = self.fronts.as_slice();
+        let fronts = self.fronts;
         for (i, own) in fronts.iter().enumerate() {
             self.each_behind(&fronts[..i], own, sink);
         }

@@ -2,16 +2,16 @@
 ghost use Rattle.std.specs.Prelude.{◌≤◌};
 
 use arrayvec::ArrayVec;
-use cover::{Cover, Word};
+use cover::Word;
 
 // Up to sixteen words that reach, and each of them with each of up to eight keys behind.
 pub type Fronts = ArrayVec<Word, 144>;
 
-// Words in front, keys, at most `extra` of which come behind a word in front, and the words of a cover that tell apart, to end with.
-#[derive(Drop)]
-pub struct Factors {
-    pub fronts: Fronts,
-    pub cover: Cover,
+// Words in front, keys, at most `extra` of which come behind a word in front, and words to end with. The words are lent: see `Specification::factors`.
+#[derive(Clone, Copy)]
+pub struct Factors<'a> {
+    pub fronts: &'a [Word],
+    pub ends: &'a [Word],
     pub keys: u64,
     pub extra: usize,
     // This bound stands with each number of extra states: see `Against`.

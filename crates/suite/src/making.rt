@@ -1,25 +1,28 @@
-// The factors of the tests for a specification.
-ghost use Rattle.std.specs.Prelude.{◌≡◌, ◌≤◌, length};
+// What the tests for a specification are made of.
+ghost use Rattle.std.specs.Prelude.{◌≡◌, ◌≤◌, [], length};
 ghost use Rattle.suite.specs.Factors.{made_of};
-ghost use Rattle.suite.specs.Specified.{tests_for};
+ghost use Rattle.suite.specs.Specified.{CoverOf, tests_for};
 
-use crate::factors::Factors;
+use crate::factors::{Factors, Fronts};
 use crate::keyed::with_key;
 use crate::specification::Specification;
 use cover::Cover;
 
-impl Factors {
-    pub(crate) fn of(specification: Specification) -> Factors
-        ensures made { made_of result ≡ tests_for specification.entry }
-        ensures few { length (tests_for specification.entry) ≤ 10108800 }
+impl Specification<'_> {
+    // The factors, over a cover and an empty array for the words in front. Both are lent: they take 38 KB, and a result that held them would be copied.
+    pub(crate) fn factors<'a>(self, cover: &'a Cover, fronts: &'a mut Fronts) -> Factors<'a>
+        requires cover { CoverOf self cover.now }
+        requires none { fronts.old.items ≡ [] }
+        ensures made { made_of result ≡ tests_for self.entry }
+        ensures few { length (tests_for self.entry) ≤ 10108800 }
     {
-        let cover = Cover::of(specification.machine);
-        let keys = specification.machine.machine.keys() as u64;
+        let keys = self.machine.machine.keys() as u64;
+        with_key(cover.access.as_slice(), keys, fronts);
         Factors {
-            fronts: with_key(cover.access.as_slice(), keys),
-            cover,
+            fronts: fronts.as_slice(),
+            ends: cover.separating.as_slice(),
             keys,
-            extra: specification.extra,
+            extra: self.extra,
         }
     }
 }

@@ -37,13 +37,15 @@ impl Sink for Tally {
     }
 }
 
-// Writes a word with its length in front.
+// Writes a word with its length in front. Key by key, since `copy_from_slice` calls `memmove`, and the archive for C needs only `memcpy` and `memset`.
 fn write_word(row: &mut [u64], at: usize, word: &[u64])
     requires { at + suc (length word.now) ≤ length row.old }
     ensures { row.new ≡ take at row.old ++ (word_out word.now ++ drop (at + suc (length word.now)) row.old) }
 {
     row[at] = word.len() as u64;
-    row[at + 1..at + 1 + word.len()].copy_from_slice(word);
+    for (i, key) in word.iter().enumerate() {
+        row[at + 1 + i] = *key;
+    }
 }
 
 impl Sink for Writer<'_> {

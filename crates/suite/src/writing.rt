@@ -4,10 +4,11 @@ ghost use Rattle.suite.specs.Answer.{Prepared, TestsAnswered};
 ghost use Rattle.suite.specs.Enumeration.{Fed};
 ghost use Rattle.suite.specs.Specified.{tests_for};
 
-use crate::factors::Factors;
+use crate::factors::Fronts;
 use crate::rows::write_suite;
 use crate::sink::Sink;
 use crate::specification::Specification;
+use cover::Cover;
 use machine::{Machine, Refusal};
 use minimal::MinimalMachine;
 
@@ -35,7 +36,9 @@ impl Specification<'_> {
         ensures fed { Fed S.step (tests_for self.entry) sink.old sink.new }
         ensures few { length (tests_for self.entry) ≤ 10108800 }
     {
-        Factors::of(self).each_test(sink);
+        let cover = Cover::of(self.machine);
+        let mut fronts = Fronts::new();
+        self.factors(&cover, &mut fronts).each_test(sink);
     }
 }
 
@@ -43,5 +46,8 @@ impl Specification<'_> {
 pub fn write_tests(row: &[u64], extra: u64, out: &mut [u64]) -> Result<u64, Refusal>
     ensures { TestsAnswered row.now extra out.old result out.new }
 {
-    write_suite(&Factors::of(prepare(row, extra)?), out)
+    let specification = prepare(row, extra)?;
+    let cover = Cover::of(specification.machine);
+    let mut fronts = Fronts::new();
+    write_suite(&specification.factors(&cover, &mut fronts), out)
 }

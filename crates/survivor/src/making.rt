@@ -54,8 +54,6 @@ impl Derived for Counted<'_> {
 
     ghost made_keys = { λ counted. keys_of counted.machine };
 
-    ghost writable = { λ counted. counted.writable };
-
     fn states(&self) -> usize {
         (self.longest + 1) * self.machine.states()
     }

@@ -1,6 +1,8 @@
 // Judges boards made by chance, and compares each verdict with an independent decision.
 #![tactic(auto)]
 
+ghost use Rattle.std.specs.Prelude.{◌≡◌, ◌+◌, ◌^◌, ◌≤◌, OnOk};
+
 mod boards;
 mod comparing;
 mod deciding;
@@ -8,7 +10,7 @@ mod random;
 mod tally;
 
 use boards::Board;
-use comparing::{Comparison, Judge};
+use comparing::Judge;
 use machine::Machine;
 use random::Random;
 use std::alloc::Global;
@@ -26,12 +28,15 @@ fn compare_boards(
     random: &mut Random,
     judge: &mut Judge,
     machine: &Board,
-    comparisons: &mut Vec<Comparison>,
-) -> anyhow::Result<()> {
-    for _ in 0..8 {
+    tally: &mut Tally,
+) -> anyhow::Result<()>
+    requires { tally.old.pairs + 24 ≤ 2 ^ 32 }
+    ensures { OnOk result ((tally.new.pairs ≡ tally.old.pairs + 24) × (tally.new.machines ≡ tally.old.machines)) }
+{
+    for _ in 0..8usize {
         let board = Board::random_like(heap, random, machine)?;
         for extra in 0..3 {
-            comparisons.push(judge.compare(machine, extra, &board)?)?;
+            tally.count(&judge.compare(machine, extra, &board)?);
         }
     }
     Ok(())
@@ -41,18 +46,16 @@ fn main(rt: HostRuntime) -> anyhow::Result<()> {
     let heap = rt.alloc();
     let mut random = Random::seeded(2024);
     let mut judge = Judge::new(heap)?;
-    let mut machines = 0;
-    let mut comparisons = Vec::new(heap);
+    let mut tally = Tally::new();
     for _ in 0..1000usize {
         let states = random.below(3) + 1;
         let keys = random.below(3) + 1;
         let machine = Board::random(heap, &mut random, states, keys)?;
         if is_minimal(heap, &machine)? {
-            compare_boards(heap, &mut random, &mut judge, &machine, &mut comparisons)?;
-            machines += 1;
+            compare_boards(heap, &mut random, &mut judge, &machine, &mut tally)?;
+            tally.count_machine();
         }
     }
-    let tally = Tally::of(machines, &comparisons);
     println!(rt; "{tally}")?;
     Ok(())
 }

@@ -1,4 +1,6 @@
 // What was counted.
+ghost use Rattle.std.specs.Prelude.{◌≡◌, ◌+◌, ◌^◌, ◌<◌, ◌≤◌};
+
 use crate::comparing::Comparison;
 use std::fmt;
 use verdict::Verdict;
@@ -13,6 +15,7 @@ pub struct Tally {
     later: usize,
     disagreements: usize,
     sum: u64,
+    ghost of_pairs: { (passed ≤ pairs) × (failed ≤ pairs) × (later ≤ pairs) × (disagreements ≤ pairs) },
 }
 
 // A number more in a checksum below 2^32, as that of crates/vectors: programs can share libraries alone, and this line needs none.
@@ -36,19 +39,49 @@ fn with_verdict(sum: u64, verdict: Verdict) -> u64 {
 }
 
 impl Tally {
-    // Of so many machines, and of what came of comparing boards with them.
-    pub fn of(machines: usize, comparisons: &[Comparison]) -> Tally {
+    // Before the first comparison.
+    pub fn new() -> Tally
+        ensures { (result.machines ≡ 0) × (result.pairs ≡ 0) }
+    {
         Tally {
-            machines,
-            pairs: comparisons.len(),
-            passed: comparisons.iter().filter(|c| c.passed()).count(),
-            failed: comparisons.iter().filter(|c| !c.passed()).count(),
-            later: comparisons.iter().filter(|c| c.fails_later).count(),
-            disagreements: comparisons.iter().filter(|c| !c.agrees).count(),
-            sum: comparisons
-                .iter()
-                .fold(0, |sum, c| with_verdict(sum, c.verdict)),
+            machines: 0,
+            pairs: 0,
+            passed: 0,
+            failed: 0,
+            later: 0,
+            disagreements: 0,
+            sum: 0,
         }
+    }
+
+    // One minimal machine more.
+    pub fn count_machine(&mut self)
+        requires { self.old.machines < 2 ^ 32 }
+        ensures machines { self.new.machines ≡ self.old.machines + 1 }
+        ensures pairs { self.new.pairs ≡ self.old.pairs }
+    {
+        self.machines += 1;
+    }
+
+    // One comparison more, as it comes: none is kept.
+    pub fn count(&mut self, comparison: &Comparison)
+        requires { self.old.pairs < 2 ^ 32 }
+        ensures pairs { self.new.pairs ≡ self.old.pairs + 1 }
+        ensures machines { self.new.machines ≡ self.old.machines }
+    {
+        self.pairs += 1;
+        if comparison.passed() {
+            self.passed += 1;
+        } else {
+            self.failed += 1;
+        }
+        if comparison.fails_later {
+            self.later += 1;
+        }
+        if !comparison.agrees {
+            self.disagreements += 1;
+        }
+        self.sum = with_verdict(self.sum, comparison.verdict);
     }
 }
 

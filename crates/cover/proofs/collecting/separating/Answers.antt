@@ -13,7 +13,7 @@ pub returns-then-states-le1 : goal.returns-then-states-le1
 returns-then-states-le1 c =
     let e = c.states.ensures in
     let l = c.if-states-le1.true in
-    rw (c.push.ensures.items, c.new-words.ensures, c.new.ensures) (sym (one_state c.args.m.machine.keys (model c.args.m.machine) (omega arith)))
+    rw (c.push.ensures, c.new-words.ensures, c.new.ensures) (sym (one_state c.args.m.machine.keys (model c.args.m.machine) (omega arith)))
 
 pub loop-s-init : goal.loop-s-init
 loop-s-init c = kept_starts c.new-words.ensures
@@ -39,8 +39,8 @@ push-requires-in-pairs c =
 pub pairs-preserved : goal.pairs-preserved
 pairs-preserved c = (
   c.pairs.invariant.0,
-  rw c.push-in-pairs.ensures.items
-      (kept_more c.pairs.invariant.1 (rw c.of-levels.ensures.0 at c.telling_word-word.ensures) (λ i. both_ways _ c.if-is_among.false (c.is_among.ensures.1 (rw c.deref.ensures.0 i)))),
+  rw c.push-in-pairs.ensures
+      (kept_more c.pairs.invariant.1 _ (rw c.of-levels.ensures.0 at c.telling_word-word.ensures) (λ i. both_ways _ c.if-is_among.false (c.is_among.ensures.1 (rw c.deref.ensures.0 i)))),
 )
 
 pub loop-s-preserved : goal.loop-s-preserved

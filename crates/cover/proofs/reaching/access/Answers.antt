@@ -1,12 +1,14 @@
 use Rattle.std.proofs.Common.{◌≡◌, ℕ, ◌<◌, ◌≤◌, [], ◌∷◌, ◌++◌, length, get_or, ap, ◌∙◌, arith}
 use lib.ListN.{length-map}
+use Rattle.std.proofs.lemmas.List.{map-set}
+use Rattle.machine.specs.Items.{items}
 use Rattle.machine.proofs.Views.{view_proper, few_states}
 use Rattle.minimal.specs.Search.{found_at, found_count}
 use Rattle.minimal.specs.declared.tree.Found.{Found}
 use Rattle.minimal.specs.declared.tree.Tree.{Tree}
 use Rattle.minimal.proofs.Known.{known_minimal}
 use Rattle.cover.specs.Words.{word_of, words_of}
-use Rattle.cover.proofs.Reached.{parent_of, found_inside, parent_inside, parent_short, placed_more, placed_all, word_read, word_written}
+use Rattle.cover.proofs.Reached.{parent_of, found_inside, parent_inside, parent_short, placed_more, placed_all, word_read}
 use Rattle.cover.proofs.reaching.access.Goals as goal
 
 -- the parent of what was found at a place, and its class
@@ -36,37 +38,29 @@ bounds-deref-parent c =
     let l = parent_inside (view_proper c.args.m.machine) c.reach-tree.ensures c.loop-j.auto.j (rw c.len-j-end.ensures.value at c.loop-j-test.true) in
     let n = c.loop-j.invariant.long in
     let e = ap length c.deref.ensures.0 in
-    let s = length-map c.loop-j.words.items word_of in
+    let s = length-map (items c.loop-j.words) word_of in
     omega arith
 
-pub followed-requires : goal.followed-requires
-followed-requires c =
+pub followed-word-requires : goal.followed-word-requires
+followed-word-requires c =
     let tree = c.reach-tree.result in
     let inside = rw c.len-j-end.ensures.value at c.loop-j-test.true in
     let is = parent_is c.reach-tree.result c.loop-j.j c.at-found.ensures c.at-parent.ensures in
-    let l : c.at-parent.result.class < length (words_of c.loop-j.words.items) =
+    let l : c.at-parent.result.class < length (words_of (items c.loop-j.words)) =
     let n = c.loop-j.invariant.long in
     let i = parent_inside (view_proper c.args.m.machine) c.reach-tree.ensures c.loop-j.auto.j inside in
     omega arith in
-    let e = ap length (word_read c.loop-j.words c.at-parent.result.class c.deref.ensures.0 l c.index-deref-parent.is ∙ ap (λ i. get_or (words_of c.loop-j.words.items) i []) is) in
+    let e = ap length (word_read (items c.loop-j.words) c.at-parent.result.class c.deref.ensures.0 l c.index-deref-parent.is ∙ ap (λ i. get_or (words_of (items c.loop-j.words)) i []) is) in
     let short = parent_short (view_proper c.args.m.machine) c.reach-tree.ensures c.loop-j.invariant c.loop-j.auto.j inside in
     let few : found_count tree ≤ 16 = rw (← c.len-j-end.ensures.value) c.len-j-end.ensures.fits in
     omega arith
 
-pub offset_bounds-deref_mut-found : goal.offset_bounds-deref_mut-found
-offset_bounds-deref_mut-found c =
-    let few = few_states c.args.m.machine in
-    let e = ap (λ (d : Found). d.class) c.at-found.ensures in
-    let l = found_inside (view_proper c.args.m.machine) c.reach-tree.ensures (rw c.len-j-end.ensures.value at c.loop-j-test.true) in
-    omega arith
-
-pub bounds-deref_mut-found : goal.bounds-deref_mut-found
-bounds-deref_mut-found c =
+pub set-requires : goal.set-requires
+set-requires c =
     let d = ap (λ (d : Found). d.class) c.at-found.ensures in
     let l = found_inside (view_proper c.args.m.machine) c.reach-tree.ensures (rw c.len-j-end.ensures.value at c.loop-j-test.true) in
     let n = c.loop-j.invariant.long in
-    let e = ap length c.deref_mut.ensures.value in
-    let s = length-map c.loop-j.words.items word_of in
+    let s = length-map (items c.loop-j.words) word_of in
     omega arith
 
 pub loop-j-preserved : goal.loop-j-preserved
@@ -75,13 +69,13 @@ loop-j-preserved c =
     let inside = rw c.len-j-end.ensures.value at c.loop-j-test.true in
     let found = c.at-found.ensures in
     let is = parent_is tree c.loop-j.j found c.at-parent.ensures in
-    let l : c.at-parent.result.class < length (words_of c.loop-j.words.items) =
+    let l : c.at-parent.result.class < length (words_of (items c.loop-j.words)) =
     let n = c.loop-j.invariant.long in
     let i = parent_inside (view_proper c.args.m.machine) c.reach-tree.ensures c.loop-j.auto.j inside in
     omega arith in
-    let parent = word_read c.loop-j.words c.at-parent.result.class c.deref.ensures.0 l c.index-deref-parent.is ∙ ap (λ i. get_or (words_of c.loop-j.words.items) i []) is in
-    let grown = c.followed.ensures ∙ ap (λ w. w ++ c.at-found.result.key ∷ []) parent ∙ ap (λ (d : Found). get_or (words_of c.loop-j.words.items) (parent_of tree c.loop-j.j) [] ++ d.key ∷ []) found in
-    rw (word_written c.loop-j.words c.at-found.result.class c.followed.result c.deref_mut.ensures.value, found)
+    let parent = word_read (items c.loop-j.words) c.at-parent.result.class c.deref.ensures.0 l c.index-deref-parent.is ∙ ap (λ i. get_or (words_of (items c.loop-j.words)) i []) is in
+    let grown = c.followed-word.ensures ∙ ap (λ w. w ++ c.at-found.result.key ∷ []) parent ∙ ap (λ (d : Found). get_or (words_of (items c.loop-j.words)) (parent_of tree c.loop-j.j) [] ++ d.key ∷ []) found in
+    rw (ap words_of c.set.ensures ∙ map-set word_of (items c.loop-j.words) c.at-found.result.class c.followed-word.result, found)
     (placed_more (view_proper c.args.m.machine) c.reach-tree.ensures c.loop-j.invariant c.loop-j.auto.j inside grown)
 
 pub returns : goal.returns

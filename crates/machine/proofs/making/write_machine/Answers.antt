@@ -8,5 +8,5 @@ returns-clause-reads_back g c =
     let k = g.D.Derived.made_keys c.args.machine.now in
     let made = g.D.Derived.made c.args.machine.now in
     let row = c.write.ensures in
-    let full = (g.met.D.Derived.writable c.args.machine.now).full in
+    let full = c.requires.full in
     (ap machine_in row ∙ read_back k made full _, ap keys_in row ∙ written_keys k made full _)

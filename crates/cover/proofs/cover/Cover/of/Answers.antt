@@ -1,4 +1,5 @@
 use Rattle.std.proofs.Common.{◌≡◌, sym, subst}
+use Rattle.machine.specs.Items.{items}
 use Rattle.machine.specs.Run.{model}
 use Rattle.machine.proofs.Views.{view_proper}
 use Rattle.minimal.proofs.Known.{known_minimal}
@@ -15,8 +16,8 @@ returns c =
     let m = c.args.m.machine in
     let k = m.keys in
     let proper = view_proper m in
-    let a : words_of c.access-access.result.items ≡ access_words k (model m) = c.access-access.ensures in
-    let b : words_of c.separating-separating.result.items ≡ separating_words k (model m) = c.separating-separating.ensures in
+    let a : words_of (items c.access-access.result) ≡ access_words k (model m) = c.access-access.ensures in
+    let b : words_of (items c.separating-separating.result) ≡ separating_words k (model m) = c.separating-separating.ensures in
     record {
       access = a;
       separating = b;

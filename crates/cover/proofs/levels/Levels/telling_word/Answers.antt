@@ -15,4 +15,4 @@ unwrap-key-requires c = ap is_some c.first_key.ensures ∙ turn_key c.loop-low-t
 pub loop-low-preserved : goal.loop-low-preserved
 loop-low-preserved c =
     turn_goes c.loop-low-test.true c.loop-low.invariant (sym c.first_key.ensures ∙ c.unwrap-key.ensures)
-    c.next-p.ensures.value c.next-q.ensures.value c.next-p.ensures.inside c.next-q.ensures.inside c.push.ensures.items
+    c.next-p.ensures.value c.next-q.ensures.value c.next-p.ensures.inside c.next-q.ensures.inside c.push.ensures

@@ -1,5 +1,6 @@
 use Rattle.std.proofs.Common.{◌≡◌, ℕ, ◌<◌, [], ◌∷◌, ◌++◌, length, sym, refl, ap, ◌∙◌, arith}
 use Rattle.std.proofs.lemmas.List.{length_push}
+use Rattle.machine.specs.Items.{items}
 use Rattle.machine.specs.Machine.{after, move}
 use Rattle.machine.specs.Run.{keys_of, model}
 use Rattle.machine.specs.declared.view.Machine.{Machine as View}
@@ -34,10 +35,10 @@ loop-key-preserved c =
     elim c.if-is_none.branch [
       | then-is_none w ↦
           let none = found_none c.loop-key.tree _ (sym c.find.ensures ∙ none_from_test _ w.if-is_none.ensures) in
-          let pushed = ap (λ (t : Tree). t.found.items) w.tree-is ∙ w.push.ensures.items in
-          let new = pushed ∙ ap (λ v. c.loop-key.tree.found.items ++ record { class = v; parent = c.loop-parent.parent; key = c.loop-key.key } ∷ []) here in (
+          let pushed = ap (λ (t : Tree). (items t.found)) w.tree-is ∙ w.push.ensures in
+          let new = pushed ∙ ap (λ v. (items c.loop-key.tree.found) ++ record { class = v; parent = c.loop-parent.parent; key = c.loop-key.key } ∷ []) here in (
             grows_new _ _ _ g hi hx (λ l h e. none l h (e ∙ sym here)) c.if-is_none.tree new,
-            (let many = ap length new ∙ length_push c.loop-key.tree.found.items _ in omega arith),
+            (let many = ap length new ∙ length_push (items c.loop-key.tree.found) _ in omega arith),
           )
       | else-is_none w ↦
           let some = some_from_test _ w.if-is_none.ensures in

@@ -1,5 +1,6 @@
-use Rattle.std.proofs.Common.{inl, inr, arith, below_more}
+use Rattle.std.proofs.Common.{ap, inl, inr, arith, below_more}
 use Rattle.machine.specs.Run.{model}
+use Rattle.minimal.specs.Levels.{class_in}
 use Rattle.minimal.proofs.Refined.{finer_is, finer_itself, other_output, other_class}
 use Rattle.minimal.proofs.classes.Classes.smallest.Goals as goal
 
@@ -11,8 +12,8 @@ others-preserved c =
       c.loop-key.key,
       omega arith,
       elim c.if-not-same_class.either [
-        | inl a ↦ other_class m of c.others.other c.args.state c.loop-key.key _ _ c.behind.ensures c.behind-in-loop-key.ensures a.1
-        | inr b ↦ other_output m of c.others.other c.args.state c.loop-key.key _ _ c.output.ensures.value c.output-in-loop-key.ensures.value b
+        | inl a ↦ other_class m of c.others.other c.args.state c.loop-key.key _ _ (ap (class_in of) c.step-there.ensures.to) (ap (class_in of) c.step-here.ensures.to) a.1
+        | inr b ↦ other_output m of c.others.other c.args.state c.loop-key.key _ _ c.step-there.ensures.output c.step-here.ensures.output b
       ],
     )
 

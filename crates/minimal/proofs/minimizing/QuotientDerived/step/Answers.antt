@@ -6,7 +6,6 @@ use Rattle.minimal.specs.Quotient.{place}
 use Rattle.minimal.specs.Search.{found_count, class_found}
 use Rattle.minimal.specs.declared.tree.Found.{Found}
 use Rattle.minimal.proofs.Answered.{state_found}
-use Rattle.minimal.proofs.Growing.{found_place}
 use Rattle.minimal.proofs.Quotient.{move_quotient}
 use Rattle.minimal.proofs.minimizing.QuotientDerived.step.Goals as goal
 
@@ -26,7 +25,7 @@ returns-clause-to c =
     let h = state_found k m class entry n _ c.requires.state_within in
     let moves = move_quotient k m class entry n c.args.state c.args.key h c.requires.key_within in
     let behind = c.behind.ensures ∙ ap (λ e. class (move m e c.args.key).to) (ap (λ (d : Found). d.class) c.at-class.ensures) in
-    c.unwrap_or.ensures ∙ found_place q.tree c.behind.result _ _ c.find-place.ensures c.len.ensures.value ∙ ap (place entry n) behind ∙ sym (ap (λ (a : Move). a.to) moves)
+    c.place.ensures ∙ ap (place entry n) behind ∙ sym (ap (λ (a : Move). a.to) moves)
 
 pub returns-clause-output : goal.returns-clause-output
 returns-clause-output c =

@@ -10,7 +10,7 @@ pub loop-between-init : goal.loop-between-init
 unfolding kept_behind
 loop-between-init g c = record {
   fed = fed_none g.S.Sink.step c.args.sink.now;
-  stays = rw c.unwrap.ensures at c.try_extend_from_slice.ensures.ok ∙ ap (λ z. z ++ c.as_slice-own.result.now) c.new-test.ensures;
+  stays = c.append.ensures ∙ ap (λ z. z ++ c.as_slice-own.result.now) c.new-test.ensures;
 }
 
 pub loop-between-preserved : goal.loop-between-preserved
@@ -18,8 +18,8 @@ loop-between-preserved g c =
     let f = c.args.self.now in
     let before = c.loop-between.invariant in
     record {
-      fed = length_more g.S.Sink.step f.keys f.extra (ends_in f) _ (words_of c.args.earlier.now) c.as_slice-own.result.now c.loop-between.test.items c.loop-between.between
-          c.args.sink.now c.loop-between.sink c.each_between.new.sink before.stays (ap words_of c.as_slice.ensures.value) before.fed c.each_between.ensures.fed;
+      fed = length_more g.S.Sink.step f.keys f.extra (ends_in f) (words_of c.args.earlier.now) c.as_slice-own.result.now c.loop-between.test.items c.loop-between.between
+          c.args.sink.now c.loop-between.sink c.each_between.new.sink before.stays before.fed c.each_between.ensures.fed;
       stays = c.each_between.ensures.stays ∙ before.stays;
     }
 
@@ -29,6 +29,6 @@ returns-2 g c =
     let before = c.loop-between.invariant in
     let kept = kept_behind f.keys f.extra (ends_in f) (words_of c.args.earlier.now) in
     let all : c.loop-between.between + 1 ≡ suc f.extra = omega arith in
-    let fed = length_more g.S.Sink.step f.keys f.extra (ends_in f) _ (words_of c.args.earlier.now) c.as_slice-own.result.now c.loop-between.test.items c.loop-between.between
-    c.args.sink.now c.loop-between.sink c.each_between.new.sink before.stays (ap words_of c.as_slice.ensures.value) before.fed c.each_between.ensures.fed in
+    let fed = length_more g.S.Sink.step f.keys f.extra (ends_in f) (words_of c.args.earlier.now) c.as_slice-own.result.now c.loop-between.test.items c.loop-between.between
+    c.args.sink.now c.loop-between.sink c.each_between.new.sink before.stays before.fed c.each_between.ensures.fed in
     fed_same g.S.Sink.step _ _ c.args.sink.now c.each_between.new.sink (ap (λ v. kept v (c.loop-between.between + 1)) c.as_slice-own.ensures.value ∙ ap (kept (word_of c.args.own.now)) all) fed

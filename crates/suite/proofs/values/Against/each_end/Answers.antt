@@ -24,12 +24,11 @@ loop-end-preserved g c =
     let f = c.args.test.now.items in
     let x = c.end-item.result in
     let i = c.loop-end.end-index in
-    let extended = rw c.unwrap.ensures at c.try_extend_from_slice.ensures.ok in
-    let whole : c.try_extend_from_slice.new.self.items ≡ f ++ word_of x = cc in
+    let whole : c.append.new.test.items ≡ f ++ word_of x = cc in
     let long : c.len-begun.result ≡ length f = c.len-begun.ensures.value in
     let stays : c.truncate.new.self.items ≡ f = c.truncate.ensures.items ∙ ap (take c.len-begun.result) whole ∙ take_at f (word_of x) c.len-begun.result (sym long) in
     let short : length (word_of x) ≤ 16 = rw (← c.as_slice.ensures.value) c.as_slice.ensures.fits in
-    let found = came_up a f x c.requires.whole short c.try_extend_from_slice.new.self.items c.args.known.now c.repeated.result c.requires.known whole c.repeated.ensures in
+    let found = came_up a f x c.requires.whole short c.append.new.test.items c.args.known.now c.repeated.result c.requires.known whole c.repeated.ensures in
     elim c.if-not-repeated.branch [
       | then-not-repeated w ↦ rw w.sink-is (record {
         fed = handed_on a f x c.requires.whole short g.S.Sink.step i c.loop-end-test.true c.end-item.is c.args.sink.now c.loop-end.sink c.loop-end.invariant.fed
