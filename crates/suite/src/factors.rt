@@ -1,11 +1,11 @@
 // What the tests are made of.
 ghost use Rattle.std.specs.Prelude.{◌≤◌};
 
-use arrayvec::ArrayVec;
 use cover::Word;
+use machine::FixedList;
 
 // Up to sixteen words that reach, and each of them with each of up to eight keys behind.
-pub type Fronts = ArrayVec<Word, 144>;
+pub type Fronts = FixedList<Word, 144>;
 
 // Words in front, keys, at most `extra` of which come behind a word in front, and words to end with. The words are lent: see `Specification::factors`.
 #[derive(Clone, Copy)]
