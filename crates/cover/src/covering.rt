@@ -8,6 +8,7 @@ ghost use Rattle.cover.specs.Promises.{AccessFirst, TellingFirst, AllTelling, Ea
 use crate::collecting::separating;
 use crate::cover::Cover;
 use crate::reaching::access;
+use machine::FixedList;
 use minimal::MinimalMachine;
 
 impl Cover {
@@ -23,8 +24,11 @@ impl Cover {
         ensures once { EachOnce (separating_of result) }
         ensures short { FewerKeys (model m.entry.machine) (access_of result) × FewerKeys (model m.entry.machine) (separating_of result) }
     {
-        let access = access(m);
-        let separating = separating(m);
-        Cover { access, separating }
+        let mut cover = Cover {
+            access: access(m),
+            separating: FixedList::new(),
+        };
+        separating(m, &mut cover.separating);
+        cover
     }
 }

@@ -13,10 +13,10 @@ pub returns-then-states-le1 : goal.returns-then-states-le1
 returns-then-states-le1 c =
     let e = c.states.ensures in
     let l = c.if-states-le1.true in
-    rw (c.push.ensures, c.new-words.ensures, c.new.ensures) (sym (one_state c.args.m.machine.keys (model c.args.m.machine) (omega arith)))
+    rw (c.push.ensures, c.requires, c.new.ensures) (sym (one_state c.args.m.machine.keys (model c.args.m.machine) (omega arith)))
 
 pub loop-s-init : goal.loop-s-init
-loop-s-init c = kept_starts c.new-words.ensures
+loop-s-init c = kept_starts c.requires
 
 pub telling_word-word-requires-clause-apart : goal.telling_word-word-requires-clause-apart
 telling_word-word-requires-clause-apart c =

@@ -16,8 +16,8 @@ returns c =
     let m = c.args.m.machine in
     let k = m.keys in
     let proper = view_proper m in
-    let a : words_of (items c.access-access.result) ≡ access_words k (model m) = c.access-access.ensures in
-    let b : words_of (items c.separating-separating.result) ≡ separating_words k (model m) = c.separating-separating.ensures in
+    let a : words_of (items c.access.result) ≡ access_words k (model m) = c.access.ensures in
+    let b : words_of (items c.separating.new.words) ≡ separating_words k (model m) = c.separating.ensures in
     record {
       access = a;
       separating = b;

@@ -1,4 +1,4 @@
-use Rattle.std.proofs.Common.{◌≡◌, ◌≤◌, ◌++◌, false, length, get_or, take, sym, refl, ap, ◌∙◌}
+use Rattle.std.proofs.Common.{◌≡◌, ◌≤◌, ◌++◌, false, length, get_or, take, sym, refl, ap, ap₂, ◌∙◌}
 use Rattle.std.proofs.lemmas.List.{take_at}
 use Rattle.cover.specs.Words.{word_of}
 use Rattle.suite.specs.Enumeration.{fresh_behind}
@@ -24,7 +24,7 @@ loop-end-preserved g c =
     let f = c.args.test.now.items in
     let x = c.end-item.result in
     let i = c.loop-end.end-index in
-    let whole : c.append.new.test.items ≡ f ++ word_of x = cc in
+    let whole : c.append.new.test.items ≡ f ++ word_of x = c.append.ensures ∙ ap₂ ◌++◌ c.loop-end.invariant.stays c.as_slice.ensures.value in
     let long : c.len-begun.result ≡ length f = c.len-begun.ensures.value in
     let stays : c.truncate.new.self.items ≡ f = c.truncate.ensures.items ∙ ap (take c.len-begun.result) whole ∙ take_at f (word_of x) c.len-begun.result (sym long) in
     let short : length (word_of x) ≤ 16 = rw (← c.as_slice.ensures.value) c.as_slice.ensures.fits in
