@@ -16,6 +16,7 @@ pub trait Derived {
 
     // How many states it has.
     fn states(&self) -> usize
+        requires { Writable (made_keys self.now) (made self.now) }
         ensures { result ≡ length (made self.now) };
 
     // How many keys it has.
@@ -24,6 +25,7 @@ pub trait Derived {
 
     // What a key does in a state.
     fn step(&self, state: usize, key: usize) -> Step
+        requires writable { Writable (made_keys self.now) (made self.now) }
         requires state_within { state < length (made self.now) }
         requires key_within { key < made_keys self.now }
         ensures to { result.to ≡ (move (made self.now) state key).to }
