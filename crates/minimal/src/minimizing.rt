@@ -1,5 +1,4 @@
 // The minimal machine of a machine, written into a lent row.
-ghost use Rattle.machine.specs.Making.{Writable};
 ghost use Rattle.machine.specs.Run.{model, keys_of};
 ghost use Rattle.minimal.specs.Levels.{class_in};
 ghost use Rattle.minimal.specs.Minimized.{Minimized, MinimalReadsBack};
@@ -15,7 +14,6 @@ use machine::{Derived, Machine, Refusal, Step, write_machine};
 struct Quotient<'a> {
     classes: Classes<'a>,
     tree: Tree,
-    ghost writable: { Writable (keys_of classes.machine) (quotient (keys_of classes.machine) (model classes.machine) (class_in classes.of) (class_found tree) (found_count tree)) },
 }
 
 impl Derived for Quotient<'_> {

@@ -8,7 +8,7 @@ ghost use Rattle.suite.specs.Suite.{with_key};
 use crate::factors::Fronts;
 use cover::{Word, copied, followed};
 
-// They go into a lent array, since a result of its size would be copied. Each loop has a name, which its proof is told under.
+// They go into a lent list, since a result of its size would be copied. Each loop has a name, which its proof is told under.
 pub(crate) fn with_key(access: &[Word], keys: u64, fronts: &mut Fronts)
     requires words { (length access.now ≤ 16) × ((keys ≤ 8) × (AllByRecursion (λ w. length w < 16) (words_of access.now))) }
     requires none { items fronts.old ≡ [] }

@@ -10,7 +10,7 @@ use crate::specification::Specification;
 use cover::Cover;
 
 impl Specification<'_> {
-    // The factors, over a cover and an empty array for the words in front. Both are lent: they take 38 KB, and a result that held them would be copied.
+    // The factors, over a cover and an empty list for the words in front. Both are lent: they take 38 KB, and a result that held them would be copied.
     pub(crate) fn factors<'a>(self, cover: &'a Cover, fronts: &'a mut Fronts) -> Factors<'a>
         requires cover { CoverOf self cover.now }
         requires none { items fronts.old ≡ [] }

@@ -1,6 +1,5 @@
 // Writing a survivor into a lent row.
 ghost use Rattle.std.specs.Prelude.{◌≡◌, ◌+◌, ◌*◌, ◌^◌, ◌<◌, ◌≤◌, ◌==◌, ◌&&◌, cond, min, Ok, Err};
-ghost use Rattle.machine.specs.Making.{Writable};
 ghost use Rattle.machine.specs.Refusals.{reason, reason_of};
 ghost use Rattle.machine.specs.Run.{model, keys_of};
 ghost use Rattle.survivor.specs.Answer.{SurvivorWritten, SurvivorReadsBack};
@@ -45,7 +44,6 @@ fn shown(longest: usize, pressed: usize, key: usize, output: u64) -> u64
 struct Counted<'a> {
     machine: Machine<'a>,
     longest: usize,
-    ghost writable: { Writable (keys_of machine) (survivor_of (keys_of machine) (model machine) longest) },
 }
 
 // A state stands for a state of the machine and how many keys were pressed.

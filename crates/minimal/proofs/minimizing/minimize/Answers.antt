@@ -20,13 +20,11 @@ search-tree-requires c =
     let of = c.of_equivalent-classes.ensures in
     equivalence_congruence (view_proper c.of_equivalent-classes.result.machine) (equivalence_of _ _ _ of.machine of.equivalence)
 
-pub invariant_of-write_machine : goal.invariant_of-write_machine
-invariant_of-write_machine c =
+pub write_machine-requires : goal.write_machine-requires
+write_machine-requires c =
     let classes = c.of_equivalent-classes.result in
     let tree = c.search-tree.result in
-    record {
-      writable = quotient_writable (keys_of classes.machine) (model classes.machine) (class_in classes.of) (class_found tree) (found_count tree) c.search-tree.ensures.few (few_keys classes.machine);
-    }
+    quotient_writable (keys_of classes.machine) (model classes.machine) (class_in classes.of) (class_found tree) (found_count tree) c.search-tree.ensures.few (few_keys classes.machine)
 
 pub returns : goal.returns
 returns c =

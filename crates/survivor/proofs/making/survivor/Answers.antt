@@ -40,14 +40,14 @@ returns-in_err-longest c =
       reads_back = tt;
     })
 
-pub invariant_of-write_machine : goal.invariant_of-write_machine
-invariant_of-write_machine c =
+pub write_machine-requires : goal.write_machine-requires
+write_machine-requires c =
     let row = c.args.row.now in
     let told = c.in_ok-longest.ensures in
     let read = c.in_ok-machine.ensures in
     let same = own_states row _ _ c.args.longest c.states.ensures read.machine in
     let ready = writable row c.args.longest c.args.out.now read.accepted (let h = told.1 in omega arith) in
-    record { writable = simp (read.machine, read.keys, told.0) ready }
+    simp (read.machine, read.keys, told.0) ready
 
 pub returns : goal.returns
 returns c =

@@ -38,7 +38,7 @@ returns-clause-output c =
 pub overflow_add-result : goal.overflow_add-result
 overflow_add-result c =
     let v = c.args.self.now in
-    let low = layer_low (keys_of v.machine) (model v.machine) v.longest (view_proper v.machine) v.writable c.min-layer.result (let e = c.min-layer.ensures in omega arith) in
+    let low = layer_low (keys_of v.machine) (model v.machine) v.longest (view_proper v.machine) c.requires.writable c.min-layer.result (let e = c.min-layer.ensures in omega arith) in
     let e = ap (λ n. c.min-layer.result * n) c.states-own.ensures in
     let next = c.step-step.ensures.inside in
     omega arith
