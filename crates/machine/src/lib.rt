@@ -1,4 +1,4 @@
-// Machines in lent rows of numbers: refusals, reading, running.
+// Machines in lent rows of numbers: refusals, reading, running, writing; and the list of fixed room that the libraries keep things in.
 #![tactic(auto)]
 
 mod fixed_list;
