@@ -10,8 +10,11 @@ mod running;
 mod view;
 
 pub use fixed_list::FixedList;
-pub use making::{Derived, write_machine};
+pub use making::{Computed, Derived, write_computed, write_machine};
 pub use reading::{Shape, read_shape};
 pub use refusals::Refusal;
 pub use running::{Difference, Step, word_at};
 pub use view::Machine;
+
+#[cfg(test)]
+mod tests;

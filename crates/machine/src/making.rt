@@ -7,8 +7,8 @@ ghost use Rattle.machine.specs.Row.{room, row_of};
 use crate::refusals::Refusal;
 use crate::running::Step;
 
-// A machine that stands in no row: each of its moves is worked out when it is asked for.
-pub trait Derived {
+// A machine that stands in no row: each of its moves is worked out when it is asked for. That it can be written is asked at each call.
+pub trait Computed {
     // the machine
     ghost made: { Self → Model };
     // its number of keys
@@ -33,7 +33,7 @@ pub trait Derived {
 }
 
 // The whole row, over what the lent row held.
-fn write<D: Derived>(machine: &D, out: &mut [u64])
+fn write<D: Computed>(machine: &D, out: &mut [u64])
     requires writable { Writable (D.made_keys machine.now) (D.made machine.now) }
     requires fits { room (length (D.made machine.now)) (D.made_keys machine.now) ≤ length out.old }
     ensures { out.new ≡ row_of (D.made_keys machine.now) (D.made machine.now) ++ drop (room (length (D.made machine.now)) (D.made_keys machine.now)) out.old }
@@ -55,7 +55,7 @@ fn write<D: Derived>(machine: &D, out: &mut [u64])
 }
 
 // Writes a machine into a lent row and answers its number of states, or refuses and writes nothing.
-pub fn write_machine<D: Derived>(machine: &D, out: &mut [u64]) -> Result<u64, Refusal>
+pub fn write_computed<D: Computed>(machine: &D, out: &mut [u64]) -> Result<u64, Refusal>
     requires { Writable (D.made_keys machine.now) (D.made machine.now) }
     ensures written { MachineWritten (D.made_keys machine.now) (D.made machine.now) out.old result out.new }
     ensures reads_back { ReadsBack (D.made_keys machine.now) (D.made machine.now) result out.new }
@@ -67,4 +67,60 @@ pub fn write_machine<D: Derived>(machine: &D, out: &mut [u64]) -> Result<u64, Re
     }
     write(machine, out);
     Ok(states as u64)
+}
+
+// A machine of a type whose values can all be written, which its law says once: its calls ask for nothing more.
+pub trait Derived {
+    // the machine
+    ghost made: { Self → Model };
+    // its number of keys
+    ghost made_keys: { Self → ℕ };
+
+    // How many states it has.
+    fn states(&self) -> usize
+        ensures { result ≡ length (made self.now) };
+
+    // How many keys it has.
+    fn keys(&self) -> usize
+        ensures { result ≡ made_keys self.now };
+
+    // What a key does in a state.
+    fn step(&self, state: usize, key: usize) -> Step
+        requires state_within { state < length (made self.now) }
+        requires key_within { key < made_keys self.now }
+        ensures to { result.to ≡ (move (made self.now) state key).to }
+        ensures output { result.output ≡ (move (made self.now) state key).output };
+
+    // it can be written
+    ghost writable: { (d : Self) → Writable (made_keys d) (made d) };
+}
+
+// Such a machine as one that is computed.
+#[derive(Drop)]
+struct Always<'a, D>(&'a D);
+
+impl<D: Derived> Computed for Always<'_, D> {
+    ghost made = { λ always. D.made always.0.now };
+
+    ghost made_keys = { λ always. D.made_keys always.0.now };
+
+    fn states(&self) -> usize {
+        self.0.states()
+    }
+
+    fn keys(&self) -> usize {
+        self.0.keys()
+    }
+
+    fn step(&self, state: usize, key: usize) -> Step {
+        self.0.step(state, key)
+    }
+}
+
+// Writes such a machine into a lent row and answers its number of states, or refuses and writes nothing.
+pub fn write_machine<D: Derived>(machine: &D, out: &mut [u64]) -> Result<u64, Refusal>
+    ensures written { MachineWritten (D.made_keys machine.now) (D.made machine.now) out.old result out.new }
+    ensures reads_back { ReadsBack (D.made_keys machine.now) (D.made machine.now) result out.new }
+{
+    write_computed(&Always(machine), out)
 }

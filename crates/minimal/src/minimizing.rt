@@ -1,4 +1,5 @@
 // The minimal machine of a machine, written into a lent row.
+ghost use Rattle.machine.specs.Making.{Writable};
 ghost use Rattle.machine.specs.Run.{model, keys_of};
 ghost use Rattle.minimal.specs.Levels.{class_in};
 ghost use Rattle.minimal.specs.Minimized.{Minimized, MinimalReadsBack};
@@ -7,16 +8,17 @@ ghost use Rattle.minimal.specs.Search.{class_found, found_count};
 
 use crate::classes::Classes;
 use crate::tree::Tree;
-use machine::{Derived, Machine, Refusal, Step, write_machine};
+use machine::{Computed, Machine, Refusal, Step, write_computed};
 
 // The machine that has a state for each class found.
 #[derive(Drop)]
 struct Quotient<'a> {
     classes: Classes<'a>,
     tree: Tree,
+    ghost writable: { Writable (keys_of classes.machine) (quotient (keys_of classes.machine) (model classes.machine) (class_in classes.of) (class_found tree) (found_count tree)) },
 }
 
-impl Derived for Quotient<'_> {
+impl Computed for Quotient<'_> {
     ghost made = { λ q. quotient (keys_of q.classes.machine) (model q.classes.machine) (class_in q.classes.of) (class_found q.tree) (found_count q.tree) };
 
     ghost made_keys = { λ q. keys_of q.classes.machine };
@@ -46,5 +48,5 @@ pub fn minimize(row: &[u64], out: &mut [u64]) -> Result<u64, Refusal>
     let m = Machine::read(row)?;
     let classes = Classes::of_equivalent(m);
     let tree = classes.search();
-    write_machine(&Quotient { classes, tree }, out)
+    write_computed(&Quotient { classes, tree }, out)
 }

@@ -1,11 +1,12 @@
 // Writing a survivor into a lent row.
 ghost use Rattle.std.specs.Prelude.{◌≡◌, ◌+◌, ◌*◌, ◌^◌, ◌<◌, ◌≤◌, ◌==◌, ◌&&◌, cond, min, Ok, Err};
+ghost use Rattle.machine.specs.Making.{Writable};
 ghost use Rattle.machine.specs.Refusals.{reason, reason_of};
 ghost use Rattle.machine.specs.Run.{model, keys_of};
 ghost use Rattle.survivor.specs.Answer.{SurvivorWritten, SurvivorReadsBack};
 ghost use Rattle.survivor.specs.Survivor.{wrong, survivor_of};
 
-use machine::{Derived, Machine, Refusal, Step};
+use machine::{Computed, Machine, Refusal, Step};
 
 // The bound, if the survivor has at most 4,096 states.
 fn small_bound(own: usize, longest: u64) -> Result<usize, Refusal>
@@ -44,10 +45,11 @@ fn shown(longest: usize, pressed: usize, key: usize, output: u64) -> u64
 struct Counted<'a> {
     machine: Machine<'a>,
     longest: usize,
+    ghost writable: { Writable (keys_of machine) (survivor_of (keys_of machine) (model machine) longest) },
 }
 
 // A state stands for a state of the machine and how many keys were pressed.
-impl Derived for Counted<'_> {
+impl Computed for Counted<'_> {
     ghost made = { λ counted. survivor_of (keys_of counted.machine) (model counted.machine) counted.longest };
 
     ghost made_keys = { λ counted. keys_of counted.machine };
@@ -78,5 +80,5 @@ pub fn survivor(row: &[u64], longest: u64, out: &mut [u64]) -> Result<u64, Refus
 {
     let machine = Machine::read(row)?;
     let longest = small_bound(machine.states(), longest)?;
-    machine::write_machine(&Counted { machine, longest }, out)
+    machine::write_computed(&Counted { machine, longest }, out)
 }

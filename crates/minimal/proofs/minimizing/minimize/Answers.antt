@@ -20,11 +20,13 @@ search-tree-requires c =
     let of = c.of_equivalent-classes.ensures in
     equivalence_congruence (view_proper c.of_equivalent-classes.result.machine) (equivalence_of _ _ _ of.machine of.equivalence)
 
-pub write_machine-requires : goal.write_machine-requires
-write_machine-requires c =
+pub invariant_of-write_computed : goal.invariant_of-write_computed
+invariant_of-write_computed c =
     let classes = c.of_equivalent-classes.result in
     let tree = c.search-tree.result in
-    quotient_writable (keys_of classes.machine) (model classes.machine) (class_in classes.of) (class_found tree) (found_count tree) c.search-tree.ensures.few (few_keys classes.machine)
+    record {
+      writable = quotient_writable (keys_of classes.machine) (model classes.machine) (class_in classes.of) (class_found tree) (found_count tree) c.search-tree.ensures.few (few_keys classes.machine);
+    }
 
 pub returns : goal.returns
 returns c =
@@ -39,5 +41,5 @@ returns c =
     (found_machine (view_proper v) (class_in classes.of) (equivalence_of _ _ _ of.machine of.equivalence) tree c.search-tree.ensures.found)
     (let few = c.search-tree.ensures.few in let many = length_quotient (keys_of v) (model v) (class_in classes.of) (class_found tree) (found_count tree) in omega arith)
     (quotient_low (keys_of v) (model v) (class_in classes.of) (class_found tree) (found_count tree) low)
-    c.write_machine.result c.write_machine.new.out c.write_machine.ensures.written c.write_machine.ensures.reads_back in
+    c.write_computed.result c.write_computed.new.out c.write_computed.ensures.written c.write_computed.ensures.reads_back in
     record { minimized = both.0; reads_back = both.1 }

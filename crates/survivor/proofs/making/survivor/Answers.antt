@@ -40,14 +40,14 @@ returns-in_err-longest c =
       reads_back = tt;
     })
 
-pub write_machine-requires : goal.write_machine-requires
-write_machine-requires c =
+pub invariant_of-write_computed : goal.invariant_of-write_computed
+invariant_of-write_computed c =
     let row = c.args.row.now in
     let told = c.in_ok-longest.ensures in
     let read = c.in_ok-machine.ensures in
     let same = own_states row _ _ c.args.longest c.states.ensures read.machine in
     let ready = writable row c.args.longest c.args.out.now read.accepted (let h = told.1 in omega arith) in
-    simp (read.machine, read.keys, told.0) ready
+    record { writable = simp (read.machine, read.keys, told.0) ready }
 
 pub returns : goal.returns
 returns c =
@@ -56,8 +56,8 @@ returns c =
     let read = c.in_ok-machine.ensures in
     let same = own_states row _ _ c.args.longest c.states.ensures read.machine in
     record {
-      written = answered row c.args.longest c.args.out.now read.accepted (let h = told.1 in omega arith) c.write_machine.result c.write_machine.new.out
-          (simp (read.machine, read.keys, told.0) at c.write_machine.ensures.written);
-      reads_back = read_again row c.args.longest c.args.out.now read.accepted (let h = told.1 in omega arith) c.write_machine.result c.write_machine.new.out
-          (simp (read.machine, read.keys, told.0) at c.write_machine.ensures.reads_back);
+      written = answered row c.args.longest c.args.out.now read.accepted (let h = told.1 in omega arith) c.write_computed.result c.write_computed.new.out
+          (simp (read.machine, read.keys, told.0) at c.write_computed.ensures.written);
+      reads_back = read_again row c.args.longest c.args.out.now read.accepted (let h = told.1 in omega arith) c.write_computed.result c.write_computed.new.out
+          (simp (read.machine, read.keys, told.0) at c.write_computed.ensures.reads_back);
     }

@@ -4,7 +4,7 @@ use Rattle.machine.specs.Run.{model, keys_of}
 use Rattle.machine.proofs.Views.{view_proper}
 use Rattle.survivor.proofs.Layers.{layer_low}
 use Rattle.survivor.proofs.Survivors.{length_survivor, survivor_at}
-use Rattle.survivor.proofs.making.CountedDerived.step.Goals as goal
+use Rattle.survivor.proofs.making.CountedComputed.step.Goals as goal
 
 pub nonzero_rem-state : goal.nonzero_rem-state
 nonzero_rem-state c = let s = (view_proper c.args.self.now.machine).some in let e = c.states-own.ensures in omega arith

@@ -7,7 +7,7 @@ use Rattle.minimal.specs.Search.{found_count, class_found}
 use Rattle.minimal.specs.declared.tree.Found.{Found}
 use Rattle.minimal.proofs.Answered.{state_found}
 use Rattle.minimal.proofs.Quotient.{move_quotient}
-use Rattle.minimal.proofs.minimizing.QuotientDerived.step.Goals as goal
+use Rattle.minimal.proofs.minimizing.QuotientComputed.step.Goals as goal
 
 pub at-class-requires : goal.at-class-requires
 at-class-requires c =

@@ -3,7 +3,7 @@ use Rattle.machine.specs.Run.{model, keys_of}
 use Rattle.minimal.specs.Levels.{class_in}
 use Rattle.minimal.specs.Search.{found_count, class_found}
 use Rattle.minimal.proofs.Quotient.{length_quotient}
-use Rattle.minimal.proofs.minimizing.QuotientDerived.states.Goals as goal
+use Rattle.minimal.proofs.minimizing.QuotientComputed.states.Goals as goal
 
 pub returns : goal.returns
 returns c =

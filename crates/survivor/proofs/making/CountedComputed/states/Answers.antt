@@ -3,7 +3,7 @@ use Rattle.machine.specs.Run.{model, keys_of}
 use Rattle.machine.proofs.Views.{view_proper}
 use Rattle.survivor.proofs.Layers.{states_low, longest_low}
 use Rattle.survivor.proofs.Survivors.{length_survivor}
-use Rattle.survivor.proofs.making.CountedDerived.states.Goals as goal
+use Rattle.survivor.proofs.making.CountedComputed.states.Goals as goal
 
 pub overflow_add-result : goal.overflow_add-result
 overflow_add-result c = let v = c.args.self.now in omega (arith, longest_low (keys_of v.machine) (model v.machine) v.longest (view_proper v.machine) c.requires)
