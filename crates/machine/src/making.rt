@@ -69,7 +69,7 @@ pub fn write_computed<D: Computed>(machine: &D, out: &mut [u64]) -> Result<u64, 
     Ok(states as u64)
 }
 
-// A machine of a type whose values can all be written, which its law says once: its calls ask for nothing more.
+// A machine of a type whose values can all be written: its law says so once, and no call asks for it.
 pub trait Derived {
     // the machine
     ghost made: { Self → Model };
