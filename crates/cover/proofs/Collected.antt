@@ -85,7 +85,7 @@ module _ (k : ℕ) (m : Machine) where
   length_told s t = length-append (rows s) (map (λ t. telling_word k m t s) (range_with_len 0 t)) ∙ ap₂ ◌+◌ (length_rows s) (length-map-range_with_len (λ t. telling_word k m t s) 0 t)
 
 -- looking for the keys of a word among those of some words answers whether they stand there
-looking_decides : (w : FixedList ℕ 16) (ws : List (FixedList ℕ 16)) → Decides (list_any (λ v. pointwise nat_eq (word_of v) (word_of w)) ws) (In (word_of w) (words_of ws))
+looking_decides : {room : ℕ} (w : FixedList ℕ room) (ws : List (FixedList ℕ room)) → Decides (list_any (λ v. pointwise nat_eq (word_of v) (word_of w)) ws) (In (word_of w) (words_of ws))
 looking_decides w [] = (λ e. absurd (both_ways _ refl e), λ i. absurd (Memᴰ.not-nil i))
 looking_decides w (v ∷ ws) =
     let here = bytes_eq-Decides (word_of v) (word_of w) in
@@ -97,25 +97,25 @@ looking_decides w (v ∷ ws) =
 
 -- the same of the answer
 pub looking_answers :
-    (w : FixedList ℕ 16) (ws : List (FixedList ℕ 16)) (r : Bool) → r ≡ list_any (λ v. pointwise nat_eq (word_of v) (word_of w)) ws →
+    {room : ℕ} (w : FixedList ℕ room) (ws : List (FixedList ℕ room)) (r : Bool) → r ≡ list_any (λ v. pointwise nat_eq (word_of v) (word_of w)) ws →
     (IsTrue r → In (word_of w) (words_of ws)) × (In (word_of w) (words_of ws) → IsTrue r)
 looking_answers w ws r is = let d = looking_decides w ws in (λ y. d.0 (sym is ∙ y), λ i. is ∙ d.1 i)
 
 -- the words are those told so far, each once
-pub record KeptTo (k : ℕ) (m : Machine) (s t : ℕ) (ws : List (FixedList ℕ 16)) : Type 0 where
+pub record KeptTo {room : ℕ} (k : ℕ) (m : Machine) (s t : ℕ) (ws : List (FixedList ℕ room)) : Type 0 where
   pub kept : words_of ws ≡ once_from [] (told_to k m s t)
 
 -- at the beginning no word is kept
-pub kept_starts : {k : ℕ} {m : Machine} {ws : List (FixedList ℕ 16)} → ws ≡ [] → KeptTo k m 0 0 ws
+pub kept_starts : {room : ℕ} {k : ℕ} {m : Machine} {ws : List (FixedList ℕ room)} → ws ≡ [] → KeptTo k m 0 0 ws
 unfolding once_from
 kept_starts {k} {m} none = record { kept = rw (none, told_none k m) refl }
 
 -- with all states below s told from it the next state begins
-pub kept_row : {k : ℕ} {m : Machine} {s t : ℕ} {ws : List (FixedList ℕ 16)} → t ≡ s → KeptTo k m s t ws → KeptTo k m (s + 1) 0 ws
+pub kept_row : {room : ℕ} {k : ℕ} {m : Machine} {s t : ℕ} {ws : List (FixedList ℕ room)} → t ≡ s → KeptTo k m s t ws → KeptTo k m (s + 1) 0 ws
 kept_row {k} {m} {s} end h = record { kept = rw (told_row k m s) (rw end at h.kept) }
 
 -- with all states told from those below them all pairs were told
-pub kept_all : {k : ℕ} {m : Machine} {s : ℕ} {ws : List (FixedList ℕ 16)} → s ≡ length m → KeptTo k m s 0 ws → words_of ws ≡ once_from [] (telling_words k m)
+pub kept_all : {room : ℕ} {k : ℕ} {m : Machine} {s : ℕ} {ws : List (FixedList ℕ room)} → s ≡ length m → KeptTo k m s 0 ws → words_of ws ≡ once_from [] (telling_words k m)
 kept_all {k} {m} end h = rw end at h.kept ∙ ap (once_from []) (told_all k m)
 
 -- of at most 16 states there are at most 120 pairs, and so many words that tell them apart
@@ -132,7 +132,7 @@ few_separating k m few =
       | inr g ↦ rw (one_state k m g) (omega arith)
     ]
 
-module _ {k : ℕ} {m : Machine} {s t : ℕ} {ws : List (FixedList ℕ 16)} (h : KeptTo k m s t ws) where
+module _ {room : ℕ} {k : ℕ} {m : Machine} {s t : ℕ} {ws : List (FixedList ℕ room)} (h : KeptTo k m s t ws) where
   -- there is room for one word more
   pub kept_room : s < 16 → t < s → length ws < 120
   unfolding pairs
@@ -153,7 +153,7 @@ module _ {k : ℕ} {m : Machine} {s t : ℕ} {ws : List (FixedList ℕ 16)} (h :
       }
 
   -- or is new
-  pub kept_more : (w : FixedList ℕ 16) → word_of w ≡ telling_word k m t s → (In (word_of w) (words_of ws) → ⊥) → KeptTo k m s (t + 1) (ws ++ w ∷ [])
+  pub kept_more : (w : FixedList ℕ room) → word_of w ≡ telling_word k m t s → (In (word_of w) (words_of ws) → ⊥) → KeptTo k m s (t + 1) (ws ++ w ∷ [])
   kept_more w is new =
       record {
         kept = map_push word_of ws w

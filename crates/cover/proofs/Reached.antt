@@ -85,6 +85,6 @@ module _ {k : ℕ} {m : Machine} {tree : Tree} (proper : Proper k m) (search : S
             ∙ sym (access_is k m s (word_at search.0 f.0) first (let b = first_short proper 0 proper.some s (word_at search.0 f.0) first in omega arith))
 
 -- a word that is read out of some words
-pub word_read : (ws : List (FixedList ℕ 16)) (i : ℕ) {xs : List (FixedList ℕ 16)} {w : FixedList ℕ 16} → xs ≡ ws → i < length (words_of ws) → w ≡ get_or xs i w → word_of w ≡ get_or (words_of ws) i []
+pub word_read : {room : ℕ} (ws : List (FixedList ℕ room)) (i : ℕ) {xs : List (FixedList ℕ room)} {w : FixedList ℕ room} → xs ≡ ws → i < length (words_of ws) → w ≡ get_or xs i w → word_of w ≡ get_or (words_of ws) i []
 word_read ws i {xs} {w} same inside is =
     ap word_of is ∙ ap (λ ws. word_of (get_or ws i w)) same ∙ sym (get_or-map word_of ws i w [] (let e = length-map ws word_of in omega arith))

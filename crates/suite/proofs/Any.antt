@@ -32,6 +32,6 @@ module _ (f : Word → Bool) where
   any_push ws w = list_any-append f ws (w ∷ []) ∙ ap (λ b. list_any f ws || b) (or-false (f w))
 
 -- a test of what some words by value stand for is a test of the words
-pub any_words : (f : Word → Bool) (ws : List (FixedList ℕ 16)) → list_any f (words_of ws) ≡ list_any (λ w. f (word_of w)) ws
+pub any_words : {room : ℕ} (f : Word → Bool) (ws : List (FixedList ℕ room)) → list_any f (words_of ws) ≡ list_any (λ w. f (word_of w)) ws
 any_words f [] = refl
 any_words f (w ∷ ws) = ap (λ b. f (word_of w) || b) (any_words f ws)

@@ -63,7 +63,7 @@ module _ (e : ℕ) (ends earlier : List Word) (own j : ℕ) (f : Word) where
       ap (λ b. cond (not b) ((f ++ w) ∷ rest) rest) (h w (Memᴰ.head refl)) ∙ fresh_none ws (λ v m. h v (Memᴰ.tail m))
 
   -- one end more
-  module _ (ws : List (FixedList ℕ 16)) (i : ℕ) (x : FixedList ℕ 16) (inside : i < length ws) (is : x ≡ get_or ws i x) where
+  module _ {room : ℕ} (ws : List (FixedList ℕ room)) (i : ℕ) (x : FixedList ℕ room) (inside : i < length ws) (is : x ≡ get_or ws i x) where
     -- what is new with the first i + 1 ends is what is new with the first i, and with the next
     fresh_more : fresh_behind e ends earlier own j f (take (i + 1) (words_of ws)) ≡ fresh_behind e ends earlier own j f (take i (words_of ws)) ++ fresh_behind e ends earlier own j f (word_of x ∷ [])
     fresh_more =

@@ -67,7 +67,7 @@ kept_from_push k e ws earlier (u ∷ vs) v =
     ∙ ap (λ z. kept_behind k e ws earlier u (suc e) ++ z) (kept_from_push k e ws (earlier ++ u ∷ []) vs v)
 
 -- one word in front more
-pub front_more : (k e : ℕ) (ws : List Word) (vs : List (FixedList ℕ 16)) (i : ℕ) (x : FixedList ℕ 16) → i < length vs → x ≡ get_or vs i x →
+pub front_more : {room : ℕ} (k e : ℕ) (ws : List Word) (vs : List (FixedList ℕ room)) (i : ℕ) (x : FixedList ℕ room) → i < length vs → x ≡ get_or vs i x →
     kept k e (take i (words_of vs)) ws ++ kept_behind k e ws (words_of (take i vs)) (word_of x) (suc e) ≡ kept k e (take (i + 1) (words_of vs)) ws
 front_more k e ws vs i x l is =
     ap (λ z. kept k e (take i (words_of vs)) ws ++ kept_behind k e ws z (word_of x) (suc e)) (sym (take-map word_of i vs))

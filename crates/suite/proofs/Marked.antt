@@ -15,7 +15,7 @@ use Rattle.suite.proofs.Places.{word_at}
 pub marks_none : (own j m : ℕ) (b : Bool) → m < 36 → b ≡ (get_or (replicate 36 false) m false || within own j m) → b ≡ (within own j m || false)
 marks_none own j m b l e = e ∙ ap (λ z. z || within own j m) (get_or-replicate 36 m false false l) ∙ sym (or-false (within own j m))
 
-module _ (e : ℕ) (f : List ℕ) (ws : List (FixedList ℕ 16)) (i own j : ℕ) (x : FixedList ℕ 16) (inside : i < length ws) (is : x ≡ get_or ws i x) (m : ℕ) (b r : Bool)
+module _ {room : ℕ} (e : ℕ) (f : List ℕ) (ws : List (FixedList ℕ room)) (i own j : ℕ) (x : FixedList ℕ room) (inside : i < length ws) (is : x ≡ get_or ws i x) (m : ℕ) (b r : Bool)
     (so_far : b ≡ (within own j m || list_any (marks (suc e) f m) (take i (words_of ws)))) where
   -- with x too, the place has a mark if it had one before or x marks it
   one_more : (within own j m || list_any (marks (suc e) f m) (take (i + 1) (words_of ws))) ≡ (b || marks (suc e) f m (word_of x))

@@ -27,5 +27,5 @@ pub end_from : (c : List ℕ) (n : ℕ) → take (length c - n) (drop n c) ≡ d
 end_from c n = take_all (length c - n) (drop n c) (omega (arith, length-drop n c))
 
 -- the word that stands at a place of a slice
-pub word_at : (ws : List (FixedList ℕ 16)) (i : ℕ) (x : FixedList ℕ 16) → i < length ws → x ≡ get_or ws i x → get_or (words_of ws) i [] ≡ word_of x
+pub word_at : {room : ℕ} (ws : List (FixedList ℕ room)) (i : ℕ) (x : FixedList ℕ room) → i < length ws → x ≡ get_or ws i x → get_or (words_of ws) i [] ≡ word_of x
 word_at ws i x l e = get_or-map word_of ws i x [] l ∙ ap word_of (sym e)

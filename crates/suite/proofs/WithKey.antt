@@ -9,7 +9,7 @@ use Rattle.machine.specs.Machine.{Word}
 use Rattle.machine.specs.Words.{each_behind, single_keys}
 use Rattle.suite.proofs.Places.{word_at}
 
-module _ (ws : List (FixedList ℕ 16)) (i : ℕ) (x : FixedList ℕ 16) (inside : i < length ws) (is : x ≡ get_or ws i x) where
+module _ {room : ℕ} (ws : List (FixedList ℕ room)) (i : ℕ) (x : FixedList ℕ room) (inside : i < length ws) (is : x ≡ get_or ws i x) where
   -- these words, each as its keys
   abbrev W : List Word
   W = words_of ws
